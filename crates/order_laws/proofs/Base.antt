@@ -1,13 +1,13 @@
 -- The table of what follows is orderly, where there is no cycle.
-use Rattle.std.proofs.Common.{zero, suc, ◌≡◌, ◌≢◌, ◌↔◌, ℕ, ℤ, pos, List, [], ◌∷◌, ◌++◌, Bool, true, false, cond, ◌+◌, ◌*◌, ◌<◌, ◌≤◌, length, arith, inl, inr, refl, subst, ap, sym, ◌∙◌, length-append}
-use Rattle.std.specs.Prelude.{◌||◌, ◌&&◌, ◌⊎◌}
+use Rattle.std.proofs.Common.{◌≡◌, ℕ, List, [], ◌∷◌, ◌++◌, Bool, true, false, ◌<◌, length, arith, inl, inr, refl, subst, ap, sym}
+use Rattle.std.specs.Prelude.{◌||◌}
 use Rattle.std.proofs.lemmas.Bool.{cases_Bool, true≢false}
 use Rattle.order_laws.specs.declared.Order.{Order}
 use Rattle.order_laws.specs.declared.Point.{Point}
 use Rattle.order_laws.specs.declared.Reach.{Reach}
 use Rattle.order_laws.specs.declared.Reach.TheVariants.{None as Nothing, Le, Lt}
-use Rattle.order_laws.specs.Chains.{order_at, IsWalk, IsChain, shows_strict, Follows, HasCycle}
-use Rattle.order_laws.specs.Tables.{is_known, is_strict, IsPoint, IsOrderSet, IsOrderly, IsBase}
+use Rattle.order_laws.specs.Chains.{order_at, IsWalk, shows_strict, Follows, HasCycle}
+use Rattle.order_laws.specs.Tables.{is_known, is_strict, IsPoint, IsOrderly, IsBase}
 
 module _ (orders : List Order) where
   pub walk-append : (x y z : Point) (ms ns : List ℕ) → IsWalk orders x y ms → IsWalk orders y z ns → IsWalk orders x z (ms ++ ns)

@@ -1,18 +1,11 @@
 -- The placing built over an orderly table satisfies the orders.
-use Rattle.std.proofs.Common.{zero, suc, ◌≡◌, ◌≢◌, ◌↔◌, ℕ, ℤ, pos, List, [], ◌∷◌, ◌++◌, Bool, true, false, cond, ◌+◌, ◌*◌, ◌<◌, ◌≤◌, length, get_or, map, arith, inl, inr, refl, subst, ap, sym, ◌∙◌, eqb}
-use Rattle.std.specs.Prelude.{◌<ℤ◌, ◌-ℤ◌, ◌||◌, ◌&&◌, ◌⊎◌}
-use Rattle.std.proofs.lemmas.Int.{ints}
+use Rattle.std.proofs.Common.{zero, suc, ◌≡◌, ℕ, List, [], ◌∷◌, Bool, true, false, ◌<◌, ◌≤◌, arith, inl, inr, refl, subst, sym, ◌∙◌}
+use Rattle.std.specs.Prelude.{◌⊎◌}
 use Rattle.std.proofs.lemmas.Bool.{cases_Bool, cases_eq, true≢false}
-use Rattle.order_laws.specs.declared.Order.{Order}
 use Rattle.order_laws.specs.declared.Point.{Point}
-use Rattle.order_laws.specs.declared.Point.TheVariants.{Start, End, Date}
+use Rattle.order_laws.specs.declared.Point.TheVariants.{Date}
 use Rattle.order_laws.specs.declared.Reach.{Reach}
-use Rattle.order_laws.specs.declared.Reach.TheVariants.{None as Nothing, Le, Lt}
-use Rattle.order_laws.specs.declared.Position.{Position}
-use Rattle.order_laws.specs.Positions.{Stand, IsBefore, IsAtOrBefore}
-use Rattle.order_laws.specs.Chains.{order_at}
-use Rattle.order_laws.specs.Placings.{IsSatisfied, position_at}
-use Rattle.order_laws.specs.Tables.{is_known, is_strict, IsPoint, boundaries, date_points, all_points, floor_of, lowest, floor_instant, count_where, counts, built_at, built, IsOrderSet, IsOrderly}
+use Rattle.order_laws.specs.Tables.{is_known, floor_of, count_where}
 
 module _ (table : Point → Point → Reach) where
   pub floor_below : (n : ℕ) (p : Point) → floor_of table n p ≤ n

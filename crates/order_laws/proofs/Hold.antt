@@ -1,12 +1,12 @@
 -- A walk holds in every satisfying placing.
-use Rattle.std.proofs.Common.{◌≡◌, ℕ, ℤ, List, [], ◌∷◌, Bool, true, false, ◌+◌, ◌<◌, ◌≤◌, length, arith, inl, inr, refl, subst, ap, sym}
-use Rattle.std.specs.Prelude.{◌<ℤ◌, ◌||◌, ◌⊎◌}
+use Rattle.std.proofs.Common.{◌≡◌, ℕ, ℤ, List, [], ◌∷◌, Bool, true, false, arith, inr, subst, ap}
+use Rattle.std.specs.Prelude.{◌||◌}
 use Rattle.std.proofs.lemmas.Int.{ints}
 use Rattle.order_laws.specs.declared.Order.{Order}
 use Rattle.order_laws.specs.declared.Point.{Point}
 use Rattle.order_laws.specs.declared.Position.{Position}
-use Rattle.order_laws.specs.Positions.{Stand, IsBefore, IsAtOrBefore}
-use Rattle.order_laws.specs.Chains.{IsWalk, IsChain, shows_strict, Follows, HasCycle, order_at}
+use Rattle.order_laws.specs.Positions.{Stand}
+use Rattle.order_laws.specs.Chains.{IsWalk, shows_strict, HasCycle, order_at}
 use Rattle.order_laws.specs.Placings.{IsSatisfied, IsConsistent, position_at}
 
 pub stand_twice : (a b : Bool) (p q r : Position) → Stand a p q → Stand b q r → Stand (a || b) p r

@@ -1,8 +1,8 @@
 -- Over an orderly table the built placing keeps what the table knows.
-use Rattle.std.proofs.Common.{zero, suc, ◌≡◌, ◌≢◌, ℕ, ℤ, pos, List, [], ◌∷◌, ◌++◌, Bool, true, false, cond, ◌+◌, ◌*◌, ◌<◌, ◌≤◌, length, get_or, map, arith, inl, inr, refl, subst, ap, sym, ◌∙◌, eqb, add-one}
-use Rattle.std.specs.Prelude.{◌<ℤ◌, ◌-ℤ◌, ◌||◌, ◌&&◌, ◌⊎◌}
+use Rattle.std.proofs.Common.{zero, suc, ◌≡◌, ℕ, ℤ, pos, List, [], ◌∷◌, Bool, true, false, ◌+◌, ◌*◌, ◌<◌, ◌≤◌, length, get_or, arith, inl, inr, refl, subst, ap, sym, ◌∙◌, add-one}
+use Rattle.std.specs.Prelude.{◌<ℤ◌, ◌||◌, ◌&&◌}
 use Rattle.std.proofs.lemmas.Int.{ints}
-use Rattle.std.proofs.lemmas.Bool.{cases_Bool, cases_eq, cases_lt, true≢false, eqb-true, eq-eqb}
+use Rattle.std.proofs.lemmas.Bool.{cases_Bool, cases_eq, true≢false, eqb-true, eq-eqb}
 use Rattle.std.proofs.lemmas.List.{get_or-map}
 use Rattle.order_laws.specs.declared.Order.{Order}
 use Rattle.order_laws.specs.declared.Point.{Point}
@@ -10,10 +10,10 @@ use Rattle.order_laws.specs.declared.Point.TheVariants.{Start, End, Date}
 use Rattle.order_laws.specs.declared.Reach.{Reach}
 use Rattle.order_laws.specs.declared.Reach.TheVariants.{None as Nothing, Le, Lt}
 use Rattle.order_laws.specs.declared.Position.{Position}
-use Rattle.order_laws.specs.Positions.{Stand, IsBefore, IsAtOrBefore}
+use Rattle.order_laws.specs.Positions.{Stand}
 use Rattle.order_laws.specs.Chains.{order_at}
 use Rattle.order_laws.specs.Placings.{IsSatisfied, position_at, no_position}
-use Rattle.order_laws.specs.Tables.{is_known, is_strict, IsPoint, boundaries, date_points, all_points, floor_of, lowest, floor_instant, count_where, counts, built_at, built, IsOrderSet, IsOrderly}
+use Rattle.order_laws.specs.Tables.{is_known, is_strict, IsPoint, boundaries, all_points, floor_of, lowest, floor_instant, count_where, counts, built_at, built, IsOrderSet, IsOrderly}
 use Rattle.order_laws.proofs.Built.{floor_below, floor_known, floor_greatest, Among, count_le, count_lt}
 use Rattle.order_laws.proofs.Members.{in_range, all_among, length-boundaries, boundary_start, boundary_end}
 

@@ -1,11 +1,10 @@
 -- The list of all points has each point in range, and no other.
-use Rattle.std.proofs.Common.{zero, suc, ◌≡◌, ◌≢◌, ℕ, List, [], ◌∷◌, ◌++◌, Bool, true, false, cond, ◌+◌, ◌*◌, ◌<◌, ◌≤◌, length, get_or, map, arith, inl, inr, refl, subst, ap, sym, ◌∙◌, eqb, length-append}
-use Rattle.std.specs.Prelude.{◌&&◌, ◌⊎◌}
-use Rattle.std.proofs.lemmas.Bool.{cases_Bool, cases_eq, true≢false}
-use Rattle.std.proofs.lemmas.List.{get_or_append_left, get_or-append_right, get_or-map, length-map}
+use Rattle.std.proofs.Common.{zero, suc, ◌≡◌, ℕ, List, [], ◌∷◌, ◌++◌, ◌+◌, ◌*◌, ◌<◌, length, get_or, arith, inl, inr, refl, subst, ap, sym, ◌∙◌, length-append}
+use Rattle.std.specs.Prelude.{◌⊎◌}
+use Rattle.std.proofs.lemmas.Bool.{cases_eq}
+use Rattle.std.proofs.lemmas.List.{get_or_append_left, get_or-append_right}
 use Rattle.order_laws.specs.declared.Point.{Point}
 use Rattle.order_laws.specs.declared.Point.TheVariants.{Start, End, Date}
-use Rattle.order_laws.specs.declared.Position.{Position}
 use Rattle.order_laws.specs.Tables.{IsPoint, boundaries, date_points, all_points}
 use Rattle.order_laws.proofs.Built.{Among}
 

@@ -1,4 +1,4 @@
-use Rattle.std.proofs.Common.{length, subst}
+use Rattle.std.proofs.Common.{subst}
 use Rattle.order_laws.specs.declared.Position.{Position}
 use Rattle.order_laws.specs.Positions.{Stand}
 use Rattle.order_laws.specs.Placings.{position_at}
