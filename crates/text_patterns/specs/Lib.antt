@@ -1,0 +1,4 @@
+pub mod Patterns
+pub mod Derivatives
+pub mod Machines
+pub mod Tables
