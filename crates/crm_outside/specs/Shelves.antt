@@ -1,5 +1,6 @@
 -- What the calls of a shelf and of a sink do to the bytes that they tell.
-use Rattle.std.specs.Prelude.{◌≡◌, ℕ, ◌<◌, ◌≤◌, true, List, length, Result, Option, Some, None, ⊤, IfOk, is_some}
+use Rattle.std.specs.Prelude.{◌≡◌, ℕ, ◌<◌, ◌≤◌, true, List, length, drop, Result, Option, Some, None, ⊤, IfOk, is_some}
+use Rattle.std.specs.Option.{option_map}
 
 -- the bytes of each name that is held
 abbrev pub Files : Type 0
@@ -28,3 +29,8 @@ Gives (Some files) name bytes = files name ≡ Some bytes
 abbrev pub IsTooLong : Option Files → List ℕ → ℕ → Type 0
 IsTooLong None name limit = ⊤
 IsTooLong (Some files) name limit = (bytes : List ℕ) × (files name ≡ Some bytes) × (limit < length bytes)
+
+-- the first n bytes of the file are taken and the others are left, where the files are told
+abbrev pub IsTakenTo : Option Files → List ℕ → ℕ → Option (List ℕ) → Type 0
+IsTakenTo None name n left = ⊤
+IsTakenTo (Some files) name n left = left ≡ option_map (drop n) (files name)
