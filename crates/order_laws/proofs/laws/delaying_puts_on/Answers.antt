@@ -1,0 +1,5 @@
+use Rattle.order_laws.proofs.Placed.{delayed_on}
+use Rattle.order_laws.proofs.laws.delaying_puts_on.Goals as goal
+
+pub returns : goal.returns
+returns c = λ orders extents dates x y set no_cycle in_x in_y h k. delayed_on orders extents dates set no_cycle x y in_x in_y h k
