@@ -1,5 +1,5 @@
 // The files, the standard input and the standard output of the machine. They tell nothing of their bytes.
-ghost use Rattle.std.specs.Prelude.{None, false};
+ghost use Rattle.std.specs.Prelude.{◌≡◌, None, false};
 
 use crate::{Failed, Shelf, Sink};
 use std::io::{Read, Write};
@@ -22,7 +22,10 @@ pub struct DirShelf<'a, R: Files + Input> {
 }
 
 impl<'a, R: Files + Input> DirShelf<'a, R> {
-    pub fn new(rt: &'a R) -> DirShelf<'a, R> {
+    /// A shelf with no open file, on which no call has failed.
+    pub fn new(rt: &'a R) -> DirShelf<'a, R>
+        ensures { ⟦<DirShelf<'a, R> as Shelf>⟧.faults result ≡ 0 }
+    {
         DirShelf {
             rt,
             opened: None,
@@ -82,7 +85,10 @@ pub struct StdSink<'a, R: Print> {
 }
 
 impl<'a, R: Print> StdSink<'a, R> {
-    pub fn new(rt: &'a R) -> StdSink<'a, R> {
+    /// A sink on which no call has failed.
+    pub fn new(rt: &'a R) -> StdSink<'a, R>
+        ensures { ⟦<StdSink<'a, R> as Sink>⟧.faults result ≡ 0 }
+    {
         StdSink { rt, failed: 0 }
     }
 }

@@ -65,6 +65,8 @@ fn take_front(bytes: &[u8], at: usize, buf: &mut [u8]) -> (usize, usize)
 }
 
 impl MemShelf {
+    /// A shelf of these files with none open. Its calls of `open` and `read` are counted together from 0;
+    /// a call whose number is in `fails` fails. It is honest exactly where `fails` is empty.
     pub fn new(files: FileList, fails: Numbers) -> MemShelf
         ensures { result ≡ record { files = files; fails = fails; calls = 0; left = None; faults = 0 } }
     {
@@ -188,6 +190,7 @@ impl MemSink {
         })
     }
 
+    /// The bytes written.
     pub fn written(&self) -> &[u8]
         ensures { result.now ≡ self.now.written }
     {
