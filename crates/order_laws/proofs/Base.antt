@@ -56,6 +56,10 @@ module _ (orders : List Order) where
     ]);
   }
 
+  pub path_joined : (x y z : Point) (a b : Bool) (r : Reaches x y a) (s : Reaches y z b) → (reaches_join x y z a b r s).path ≡ r.path ++ s.path
+  unfolding reaches_join
+  path_joined x y z a b r s = refl
+
   pub reaches_once : (n : ℕ) → n < length orders → Reaches (order_at orders n).low (order_at orders n).high (order_at orders n).strict
   reaches_once n h = record {
     path = n ∷ [];

@@ -1,6 +1,7 @@
 -- The computed closure has exactly what follows.
-use Rattle.std.proofs.Common.{zero, suc, ◌≡◌, ℕ, List, [], ◌∷◌, Bool, true, false, cond, map, arith, inl, inr, refl, subst, ap, sym, ◌∙◌}
+use Rattle.std.proofs.Common.{zero, suc, ◌≡◌, ℕ, List, [], ◌∷◌, Bool, true, false, cond, ◌+◌, ◌*◌, ◌≤◌, length, length-append, map, arith, inl, inr, refl, subst, ap, sym, ◌∙◌}
 use Rattle.std.specs.Prelude.{◌||◌, ◌⊎◌}
+use Rattle.std.proofs.lemmas.List.{length-map}
 use Rattle.std.proofs.lemmas.Bool.{cases_Bool, true≢false, eqb-true, eq-eqb}
 use Rattle.order_laws.specs.declared.Order.{Order}
 use Rattle.order_laws.specs.declared.Point.{Point}
@@ -8,10 +9,11 @@ use Rattle.order_laws.specs.declared.Point.TheVariants.{Start, End, Date}
 use Rattle.order_laws.specs.declared.Reach.{Reach}
 use Rattle.order_laws.specs.declared.Reach.TheVariants.{None as Nothing, Le, Lt}
 use Rattle.order_laws.specs.Chains.{order_at, IsWalk, shows_strict, Follows}
+use Rattle.order_laws.specs.ChainSearch.{enough}
 use Rattle.order_laws.specs.Closure.{followed_by, stronger, across, joined, reach_between}
 use Rattle.order_laws.specs.Points.{is_same}
 use Rattle.order_laws.specs.Tables.{is_known, is_strict, IsPoint, IsBase}
-use Rattle.order_laws.proofs.Base.{Reaches, reaches, follows, reaches_join}
+use Rattle.order_laws.proofs.Base.{Reaches, reaches, follows, reaches_join, path_joined}
 
 -- an entry that is known, and strict where the flag is set
 abbrev pub has : Bool → Reach → Bool
@@ -118,7 +120,7 @@ cond_has true b h e = refl
 cond_has false true h e = absurd (true≢false (sym h))
 cond_has false false h e = absurd (true≢false (sym e))
 
-same_is : (x y : Point) → is_same x y ≡ true → x ≡ y
+pub same_is : (x y : Point) → is_same x y ≡ true → x ≡ y
 same_is (Start j) (Start k) h = ap Start (eqb-true j k h)
 same_is (Start j) (End k) h = absurd (true≢false (sym h))
 same_is (Start j) (Date k) h = absurd (true≢false (sym h))
@@ -129,7 +131,7 @@ same_is (Date j) (Start k) h = absurd (true≢false (sym h))
 same_is (Date j) (End k) h = absurd (true≢false (sym h))
 same_is (Date j) (Date k) h = ap Date (eqb-true j k h)
 
-is_itself : (x : Point) → is_same x x ≡ true
+pub is_itself : (x : Point) → is_same x x ≡ true
 is_itself (Start k) = eq-eqb k k refl
 is_itself (End k) = eq-eqb k k refl
 is_itself (Date k) = eq-eqb k k refl
@@ -180,54 +182,77 @@ pub shown_lifted : (o : Order) (os : List Order) (ns : List ℕ) → shows_stric
 shown_lifted o os [] = refl
 shown_lifted o os (n ∷ ns) = ap (λ b. (order_at os n).strict || b) (shown_lifted o os ns)
 
-reaches_lifted : (o : Order) (os : List Order) (x y : Point) (b : Bool) → Reaches os x y b → Reaches (o ∷ os) x y b
-reaches_lifted o os x y b r = record {
-  path = map suc r.path;
-  walk = lifted o os x y r.path r.walk;
-  shows = λ e. shown_lifted o os r.path ∙ r.shows e;
+-- what follows, by a walk of at most so many orders
+pub record Within (orders : List Order) (most : ℕ) (x y : Point) (strict : Bool) : Type 0 where
+  pub reach : Reaches orders x y strict
+  pub short : length reach.path ≤ most
+
+within_lifted : (o : Order) (os : List Order) (n : ℕ) (x y : Point) (b : Bool) → Within os n x y b → Within (o ∷ os) n x y b
+within_lifted o os n x y b r = record {
+  reach = record {
+    path = map suc r.reach.path;
+    walk = lifted o os x y r.reach.path r.reach.walk;
+    shows = λ e. shown_lifted o os r.reach.path ∙ r.reach.shows e;
+  };
+  short = omega (arith, r.short, length-map r.reach.path suc);
 }
 
-reaches_less : (orders : List Order) (x y : Point) (a b : Bool) → Reaches orders x y a → (b ≡ true → a ≡ true) → Reaches orders x y b
-reaches_less orders x y a b r k = record { path = r.path; walk = r.walk; shows = λ e. r.shows (k e) }
-
-reaches_front : (o : Order) (os : List Order) → Reaches (o ∷ os) o.low o.high o.strict
-reaches_front o os = record {
-  path = 0 ∷ [];
-  walk = (omega arith, refl, refl);
-  shows = λ e. rw e;
+pub within_less : (orders : List Order) (n m : ℕ) (x y : Point) (a b : Bool) → Within orders n x y a → n ≤ m → (b ≡ true → a ≡ true) → Within orders m x y b
+within_less orders n m x y a b r l k = record {
+  reach = record { path = r.reach.path; walk = r.reach.walk; shows = λ e. r.reach.shows (k e) };
+  short = omega (arith, r.short);
 }
 
-sound_across : (o : Order) (os : List Order) → (is_strict (reach_between os o.high o.low) ≡ true → Reaches os o.high o.low true) →
-    (b : Bool) → has b (across (reach_between os) o) ≡ true → Reaches (o ∷ os) o.low o.high b
-sound_across o os back b h =
+pub within_join : (orders : List Order) (n m : ℕ) (x y z : Point) (a b : Bool) → Within orders n x y a → Within orders m y z b → Within orders (n + m) x z (a || b)
+within_join orders n m x y z a b r s = record {
+  reach = reaches_join orders x y z a b r.reach s.reach;
+  short = omega (arith, r.short, s.short, length-append r.reach.path s.reach.path, ap length (path_joined orders x y z a b r.reach s.reach));
+}
+
+within_front : (o : Order) (os : List Order) → Within (o ∷ os) 1 o.low o.high o.strict
+within_front o os = record {
+  reach = record {
+    path = 0 ∷ [];
+    walk = (omega arith, refl, refl);
+    shows = λ e. rw e;
+  };
+  short = omega arith;
+}
+
+sound_across : (o : Order) (os : List Order) (n : ℕ) → (is_strict (reach_between os o.high o.low) ≡ true → Within os n o.high o.low true) →
+    (b : Bool) → has b (across (reach_between os) o) ≡ true → Within (o ∷ os) (n + 2) o.low o.high b
+sound_across o os n back b h =
     elim (cases_Bool b) [
       | inl e ↦ elim (or_cases o.strict (is_strict (reach_between os o.high o.low)) (cond_has _ b h e)) [
-        | inl s ↦ reaches_less (o ∷ os) o.low o.high o.strict b (reaches_front o os) (λ _. s)
-        | inr s ↦ reaches_less (o ∷ os) o.low o.high _ b
-            (reaches_join (o ∷ os) o.low o.high o.high o.strict _ (reaches_front o os)
-            (reaches_join (o ∷ os) o.high o.low o.high true o.strict (reaches_lifted o os o.high o.low true (back s)) (reaches_front o os)))
+        | inl s ↦ within_less (o ∷ os) 1 (n + 2) o.low o.high o.strict b (within_front o os) (omega arith) (λ _. s)
+        | inr s ↦ within_less (o ∷ os) (1 + (n + 1)) (n + 2) o.low o.high (o.strict || (true || o.strict)) b
+            (within_join (o ∷ os) 1 (n + 1) o.low o.high o.high o.strict (true || o.strict) (within_front o os)
+            (within_join (o ∷ os) n 1 o.high o.low o.high true o.strict (within_lifted o os n o.high o.low true (back s)) (within_front o os)))
+            (omega arith)
             (λ _. or_right _ _ refl)
       ]
-      | inr e ↦ reaches_less (o ∷ os) o.low o.high o.strict b (reaches_front o os) (λ k. absurd (true≢false (sym k ∙ e)))
+      | inr e ↦ within_less (o ∷ os) 1 (n + 2) o.low o.high o.strict b (within_front o os) (omega arith) (λ k. absurd (true≢false (sym k ∙ e)))
     ]
 
--- each entry comes from a walk
-pub sound : (orders : List Order) (x y : Point) (b : Bool) → has b (reach_between orders x y) ≡ true → Reaches orders x y b
+-- each entry comes from a walk that is not too long
+pub sound : (orders : List Order) (x y : Point) (b : Bool) → has b (reach_between orders x y) ≡ true → Within orders (enough orders) x y b
 sound [] x y true h = absurd (elim (cases_Bool (is_same x y)) [ inl e ↦ true≢false (sym (rw e at h)) | inr e ↦ true≢false (sym (rw e at h)) ])
 sound [] x y false h =
     elim (cases_Bool (is_same x y)) [
-      | inl e ↦ record { path = []; walk = same_is x y e; shows = λ k. absurd (true≢false (sym k)) }
+      | inl e ↦ record { reach = record { path = []; walk = same_is x y e; shows = λ k. absurd (true≢false (sym k)) }; short = omega arith }
       | inr e ↦ absurd (true≢false (sym (rw e at h)))
     ]
 sound (o ∷ os) x y b h =
+    let n : ℕ = enough os in
     elim (which b (reach_between os x y) (followed_by (reach_between os x o.low) (followed_by (across (reach_between os) o) (reach_between os o.high y))) h) [
-      | inl old ↦ reaches_lifted o os x y b (sound os x y b old)
+      | inl old ↦ within_less (o ∷ os) n (3 * n + 2) x y b b (within_lifted o os n x y b (sound os x y b old)) (omega arith) (λ e. e)
       | inr new ↦
           (let p : Parts b (reach_between os x o.low) (followed_by (across (reach_between os) o) (reach_between os o.high y)) = parts_of b _ _ new in
           let q : Parts p.second (across (reach_between os) o) (reach_between os o.high y) = parts_of p.second _ _ p.right in
-          reaches_less (o ∷ os) x y (p.first || (q.first || q.second)) b
-          (reaches_join (o ∷ os) x o.low y p.first (q.first || q.second) (reaches_lifted o os x o.low p.first (sound os x o.low p.first p.left))
-          (reaches_join (o ∷ os) o.low o.high y q.first q.second (sound_across o os (sound os o.high o.low true) q.first q.left) (reaches_lifted o os o.high y q.second (sound os o.high y q.second q.right))))
+          within_less (o ∷ os) (n + ((n + 2) + n)) (3 * n + 2) x y (p.first || (q.first || q.second)) b
+          (within_join (o ∷ os) n ((n + 2) + n) x o.low y p.first (q.first || q.second) (within_lifted o os n x o.low p.first (sound os x o.low p.first p.left))
+          (within_join (o ∷ os) (n + 2) n o.low o.high y q.first q.second (sound_across o os n (sound os o.high o.low true) q.first q.left) (within_lifted o os n o.high y q.second (sound os o.high y q.second q.right))))
+          (omega arith)
           (flags_twice b p.first p.second q.first q.second p.either q.either))
     ]
 
@@ -276,7 +301,7 @@ module _ (table : Point → Point → Reach) (itself : (x : Point) → has false
 joins_by : (orders : List Order) → ((x y : Point) (ns : List ℕ) → IsWalk orders x y ns → has (shows_strict orders ns) (reach_between orders x y) ≡ true) →
     (x y z : Point) (a b : Bool) → has a (reach_between orders x y) ≡ true → has b (reach_between orders y z) ≡ true → has (a || b) (reach_between orders x z) ≡ true
 joins_by orders entry x y z a b h k =
-    let r : Reaches orders x z (a || b) = reaches_join orders x y z a b (sound orders x y a h) (sound orders y z b k) in
+    let r : Reaches orders x z (a || b) = reaches_join orders x y z a b (sound orders x y a h).reach (sound orders y z b k).reach in
     has_less (shows_strict orders r.path) (a || b) (reach_between orders x z) (entry x z r.path r.walk) r.shows
 
 -- each walk has its entry
@@ -296,7 +321,7 @@ whole (o ∷ os) x y (suc n ∷ ns) w =
     (flags_single (order_at os n).strict (shows_strict (o ∷ os) ns))
 
 pub entry_follows : (orders : List Order) (x y : Point) (b : Bool) → has b (reach_between orders x y) ≡ true → Follows orders x y b
-entry_follows orders x y b h = follows orders x y b (sound orders x y b h)
+entry_follows orders x y b h = follows orders x y b (sound orders x y b h).reach
 
 pub follows_entry : (orders : List Order) (x y : Point) (b : Bool) → Follows orders x y b → has b (reach_between orders x y) ≡ true
 follows_entry orders x y b f =

@@ -1,5 +1,5 @@
 // Laws over the definitions: each is the contract of a function with nothing to do.
-ghost use Rattle.std.specs.Prelude.{◌≡◌, ◌≤◌, ◌<◌, ◌↔◌, ℕ, ℤ, pos, List, Bool, true, false, Option, Some, length, slice_index_or};
+ghost use Rattle.std.specs.Prelude.{◌≡◌, ◌≤◌, ◌<◌, ◌↔◌, ℕ, ℤ, pos, List, Bool, true, false, Some, IsSome, length, slice_index_or};
 ghost use Rattle.order_laws.specs.declared.Order.{Order};
 ghost use Rattle.order_laws.specs.declared.Point.{Point};
 ghost use Rattle.order_laws.specs.declared.Point.TheVariants.{Date};
@@ -8,8 +8,9 @@ ghost use Rattle.order_laws.specs.declared.Reach.{Reach};
 ghost use Rattle.order_laws.specs.declared.Reach.TheVariants.{Lt};
 ghost use Rattle.order_laws.specs.Positions.{IsBefore, Stand};
 ghost use Rattle.order_laws.specs.Chains.{IsChain, shows_strict, Follows, HasCycle};
+ghost use Rattle.order_laws.specs.ChainSearch.{first_chain, chain_of, first_cycle};
 ghost use Rattle.order_laws.specs.Closure.{reach_between, first_strict_loop, has_strict_loop};
-ghost use Rattle.order_laws.specs.FirstChains.{IsFirstChain, IsFirstLoop};
+ghost use Rattle.order_laws.specs.FirstChains.{IsFirstChain, IsChainOf, IsFirstLoop, IsFirstCycle};
 ghost use Rattle.order_laws.specs.Placings.{IsSatisfied, IsConsistent, AlwaysStand, position_at};
 ghost use Rattle.order_laws.specs.Tables.{IsPoint, is_known, is_strict, built_at, built, IsOrderSet, IsOrderly, IsBase};
 ghost use Rattle.order_laws.specs.Wider.{wider, plain_placing, delaying_placing};
@@ -55,6 +56,30 @@ pub fn strict_loops_are_cycles()
 pub fn first_chains_are_unique()
     ensures { (orders : List Order) (x y : Point) (strict : Bool) (ns ms : List ℕ) →
         IsFirstChain orders x y strict ns → IsFirstChain orders x y strict ms → ns ≡ ms }
+{}
+
+/// The computed first chain is the first chain, and is there exactly where one is.
+pub fn computed_chain_is_first()
+    ensures { (orders : List Order) (x y : Point) (strict : Bool) (ns : List ℕ) →
+        (first_chain orders x y strict ≡ Some ns) ↔ IsFirstChain orders x y strict ns }
+{}
+
+/// Where there is a chain, or one that shows `<` where the flag is set, there is a first one.
+pub fn chains_have_a_first()
+    ensures { (orders : List Order) (x y : Point) (strict : Bool) (ms : List ℕ) →
+        IsChain orders x y ms → (strict ≡ true → shows_strict orders ms ≡ true) →
+        IsSome (first_chain orders x y strict) }
+{}
+
+/// The computed reason is the chain of the two points.
+pub fn computed_reason_is_chain_of()
+    ensures { (orders : List Order) (x y : Point) (ns : List ℕ) → (chain_of orders x y ≡ Some ns) ↔ IsChainOf orders x y ns }
+{}
+
+/// The computed cycle is the first cycle of the first point that has one.
+pub fn computed_cycle_is_first()
+    ensures { (orders : List Order) (extents dates : ℕ) (ns : List ℕ) →
+        (first_cycle orders extents dates ≡ Some ns) ↔ IsFirstCycle orders extents dates ns }
 {}
 
 /// Over an orderly table each date keeps its place.
