@@ -1,9 +1,9 @@
 -- The nodes before the first bad one are no more than all, and all where none is bad.
-use Rattle.std.proofs.Common.{rules, arith, ◌≡◌, ◌≢◌, ◌<◌, ◌≤◌, ◌+◌, ℕ, zero, suc, Option, Some, None, List, [], ◌∷◌, ◌++◌, length, slice_index_or, refl, sym}
+use Rattle.std.proofs.Common.{arith, ◌<◌, ◌≤◌, ℕ, Option, Some, None}
 use Rattle.proof_core.specs.declared.trees.Proof.{Proof}
 use Rattle.proof_core.specs.declared.trees.Proof.TheVariants.{Leaf, One', Two'}
 use Rattle.proof_core.specs.Rules.{Rules}
-use Rattle.proof_core.specs.Proofs.{conclusion, nodes, node_count, passed, good_nodes, IsFirstBad, gives_one, gives_two}
+use Rattle.proof_core.specs.Proofs.{conclusion, node_count, passed, good_nodes}
 
 pub passed_at_most : {F : Type 0} (o : Option F) (n : ℕ) → passed o n ≤ n
 passed_at_most None n = omega arith

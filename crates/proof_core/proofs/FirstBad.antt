@@ -1,6 +1,6 @@
 -- The nodes before the first bad one are those that the check counts.
-use Rattle.std.proofs.Common.{rules, arith, ◌≡◌, ◌≢◌, ◌<◌, ◌≤◌, ◌+◌, ◌-◌, ◌⊎◌, inl, inr, ℕ, zero, suc, Option, Some, None, List, [], ◌∷◌, ◌++◌, length, get_or, map, refl, sym, ap, ◌∙◌, length-append}
-use Rattle.std.proofs.lemmas.List.{get_or_append_left, get_or-append_right, map-append, length-map}
+use Rattle.std.proofs.Common.{arith, ◌≡◌, ◌≢◌, ◌<◌, ◌≤◌, ◌+◌, ◌-◌, ◌⊎◌, inl, inr, ℕ, zero, suc, Option, Some, None, List, [], ◌∷◌, ◌++◌, length, get_or, refl, ap, ◌∙◌, length-append}
+use Rattle.std.proofs.lemmas.List.{get_or_append_left, get_or-append_right, map-append}
 use Rattle.std.proofs.lemmas.Bool.{cases_lt}
 use Rattle.proof_core.specs.declared.trees.Proof.{Proof}
 use Rattle.proof_core.specs.declared.trees.Proof.TheVariants.{Leaf, One', Two'}

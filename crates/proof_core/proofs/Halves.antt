@@ -1,11 +1,11 @@
 -- Balanced proofs: their parts, their depth, and what they conclude.
-use Rattle.std.proofs.Common.{arith, zero, suc, ◌≡◌, ◌≢◌, ◌<◌, ◌≤◌, ◌+◌, ◌-◌, ◌*◌, ◌/◌, max, ◌⊎◌, inl, inr, ℕ, Option, Some, None, List, [], ◌∷◌, ◌++◌, length, map, take, drop, refl, sym, ap, ap₂, subst, ◌∙◌}
-use Rattle.std.proofs.lemmas.List.{length-take-le, length-drop, drop-take, drop-drop, take-append-drop, map-append, length-map, take-map, drop-map}
-use Rattle.std.proofs.lemmas.Bool.{cases_lt, cases_eq}
+use Rattle.std.proofs.Common.{arith, zero, suc, ◌≡◌, ◌<◌, ◌≤◌, ◌+◌, ◌-◌, ◌*◌, ◌/◌, inl, inr, ℕ, Option, Some, None, List, [], ◌∷◌, ◌++◌, length, map, take, drop, refl, sym, ap, ap₂, subst, ◌∙◌}
+use Rattle.std.proofs.lemmas.List.{length-take-le, length-drop, drop-take, drop-drop, take-append-drop, length-map, take-map, drop-map}
+use Rattle.std.proofs.lemmas.Bool.{cases_eq}
 use Rattle.proof_core.specs.declared.trees.Proof.{Proof}
 use Rattle.proof_core.specs.declared.trees.Proof.TheVariants.{Leaf, One', Two'}
 use Rattle.proof_core.specs.Rules.{Rules}
-use Rattle.proof_core.specs.Proofs.{conclusion, node_count, gives_one, gives_two}
+use Rattle.proof_core.specs.Proofs.{conclusion, node_count, gives_two}
 use Rattle.proof_core.specs.Balanced.{IsBalanced, IsAssociative, joined_on, joined, depth, TakesToOne}
 
 -- the last n leaves, from the last of them and those before

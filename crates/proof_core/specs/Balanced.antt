@@ -1,8 +1,7 @@
 -- Balanced proofs, and what joining from left to right concludes.
-use Rattle.std.specs.Prelude.{zero, suc, ◌≡◌, ◌<◌, ◌+◌, ◌/◌, ◌≤◌, ℕ, max, Option, Some, None, List, [], ◌∷◌, length, take, drop, map}
+use Rattle.std.specs.Prelude.{zero, suc, ◌≡◌, ◌<◌, ◌+◌, ◌/◌, ℕ, max, Option, Some, None, List, [], ◌∷◌, length, take, drop}
 use Rattle.proof_core.specs.declared.trees.Proof.{Proof}
 use Rattle.proof_core.specs.declared.trees.Proof.TheVariants.{Leaf, One', Two'}
-use Rattle.proof_core.specs.Rules.{Rules}
 use Rattle.proof_core.specs.Proofs.{gives_two}
 
 -- one leaf is itself; more are joined from the balanced first half, rounded down, and the balanced rest

@@ -1,5 +1,5 @@
 -- What a proof object concludes, and its first bad node.
-use Rattle.std.specs.Prelude.{◌≡◌, ◌≢◌, ◌<◌, ◌+◌, ℕ, Bool, true, false, cond, Option, Some, None, List, [], ◌∷◌, ◌++◌, length, slice_index_or, map}
+use Rattle.std.specs.Prelude.{◌≡◌, ◌≢◌, ◌<◌, ◌+◌, ℕ, Option, Some, None, List, [], ◌∷◌, ◌++◌, length, slice_index_or, map}
 use Rattle.proof_core.specs.declared.trees.Proof.{Proof}
 use Rattle.proof_core.specs.declared.trees.Proof.TheVariants.{Leaf, One', Two'}
 use Rattle.proof_core.specs.Rules.{Rules}

@@ -1,5 +1,5 @@
 -- The rules of a theory that also takes what it keeps as leaves.
-use Rattle.std.specs.Prelude.{◌≡◌, ◌<◌, ◌++◌, zero, suc, ℕ, Option, Some, None, List, [], ◌∷◌, length, All, slice_get, slice_index_or, Result, Ok, Err}
+use Rattle.std.specs.Prelude.{◌≡◌, ◌<◌, zero, suc, ℕ, Option, Some, List, [], ◌∷◌, length, All, slice_get, slice_index_or}
 use Rattle.proof_core.specs.declared.trees.SharedLeaf.{SharedLeaf}
 use Rattle.proof_core.specs.declared.trees.SharedLeaf.TheVariants.{Own, Earlier}
 use Rattle.std.proofs.Common.{subst, arith}

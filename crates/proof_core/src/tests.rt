@@ -20,7 +20,7 @@ struct Meet;
 struct Steps;
 
 impl Theory for Steps {
-    ghost use Rattle.std.specs.Prelude.{Some, None, cond, ◌==◌, ⊤};
+    ghost use Rattle.std.specs.Prelude.{Some, None, cond, ◌==◌, ◌/◌, ⊤};
 
     type Fact = Step;
 

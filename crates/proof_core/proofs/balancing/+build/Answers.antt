@@ -1,4 +1,4 @@
-use Rattle.std.proofs.Common.{arith, ap, sym, subst, ◌≡◌, ◌-◌, ◌/◌, ◌<◌, length, take, drop, List}
+use Rattle.std.proofs.Common.{arith, sym}
 use Rattle.proof_core.proofs.Halves.{joins_balanced}
 use Rattle.proof_core.proofs.balancing.+build.Goals as goal
 
