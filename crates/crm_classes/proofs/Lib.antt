@@ -1,0 +1,3 @@
+pub mod Closed
+pub mod Index
+pub mod Codes

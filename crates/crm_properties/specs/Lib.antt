@@ -1,0 +1,5 @@
+pub mod ClassNumbers
+pub mod Table
+pub mod PropertyNumbers
+pub mod Names
+pub mod Index
