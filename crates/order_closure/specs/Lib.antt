@@ -1,0 +1,6 @@
+pub mod Next
+pub mod Links
+pub mod Search
+pub mod Table
+pub mod Edges
+pub mod Closures
