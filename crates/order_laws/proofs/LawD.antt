@@ -90,7 +90,7 @@ module _ (orders : List Order) (extents : ℕ) (dates : List ℤ) (table : Point
   n : ℕ
   n = length dates
 
-  floor_mono : (y z : Point) → IsPoint extents (length dates) y → IsPoint extents (length dates) z → is_known (table y z) ≡ true →
+  pub floor_mono : (y z : Point) → IsPoint extents (length dates) y → IsPoint extents (length dates) z → is_known (table y z) ≡ true →
       floor_of table (length dates) y ≤ floor_of table (length dates) z
   floor_mono y z in_y in_z known =
       let go : (f : ℕ) → floor_of table (length dates) y ≡ f → f ≤ floor_of table (length dates) z = λ f. elim f as (λ g. floor_of table (length dates) y ≡ g → g ≤ floor_of table (length dates) z) [

@@ -25,13 +25,13 @@ use Rattle.order_laws.proofs.Members.{length-boundaries, in_range, among_left}
 use Rattle.order_laws.proofs.Wider.{wider_orderly, put_before, put_on}
 
 -- tables with the same entries build the same placing
-count_same : (f g : Point → Bool) (xs : List Point) → ((x : Point) → Among x xs → f x ≡ g x) → count_where f xs ≡ count_where g xs
+pub count_same : (f g : Point → Bool) (xs : List Point) → ((x : Point) → Among x xs → f x ≡ g x) → count_where f xs ≡ count_where g xs
 count_same f g [] h = refl
 count_same f g (x ∷ xs) h =
     let here : f x ≡ g x = h x (inl refl) in
     omega (arith, count_same f g xs (λ z a. h z (inr a)), ap {B = ℕ} (λ b. cond b 1 0) here)
 
-map_same : (f g : Point → Position) (xs : List Point) → ((x : Point) → Among x xs → f x ≡ g x) → map f xs ≡ map g xs
+pub map_same : (f g : Point → Position) (xs : List Point) → ((x : Point) → Among x xs → f x ≡ g x) → map f xs ≡ map g xs
 map_same f g [] h = refl
 map_same f g (x ∷ xs) h =
     let here : f x ≡ g x = h x (inl refl) in
