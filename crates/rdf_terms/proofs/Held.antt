@@ -4,22 +4,10 @@ use Rattle.std.specs.Map.{lookup, keys_of}
 use Rattle.std.specs.List.{IsDistinct}
 use Rattle.rdf_terms.proofs.Numbered.{map_push, distinct_map, distinct_unmap}
 use Rattle.rdf_terms.specs.declared.terms.Term.{Term}
-use Rattle.rdf_terms.specs.declared.terms.Term.TheVariants.{Iri, Blank, Lit}
 use Rattle.rdf_terms.specs.declared.terms.Triple.{Triple}
 use Rattle.rdf_terms.specs.contracts.terms.TermPartialEq.TheImpl.{ghosts}
-use Rattle.rdf_terms.specs.Terms.{same_term, same_terms, is_held, triple_of, with_triple}
-
--- the derived `==` of terms
-pub same_term_is : (a b : Term) → ghosts.eq a b ≡ same_term a b
-same_term_is (Iri m) (Iri n) = refl
-same_term_is (Iri m) (Blank n) = refl
-same_term_is (Iri m) (Lit n) = refl
-same_term_is (Blank m) (Iri n) = refl
-same_term_is (Blank m) (Blank n) = refl
-same_term_is (Blank m) (Lit n) = refl
-same_term_is (Lit m) (Iri n) = refl
-same_term_is (Lit m) (Blank n) = refl
-same_term_is (Lit m) (Lit n) = refl
+use Rattle.rdf_terms.specs.Terms.{same_terms, is_held, triple_of, with_triple}
+use Rattle.rdf_terms.proofs.TermLemmas.{same_term_is}
 
 -- the key of an entry is compared as its triple is
 abbrev pub same_key : Triple → Term × Term × Term → Bool

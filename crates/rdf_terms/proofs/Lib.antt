@@ -1,3 +1,4 @@
 pub mod FittingLemmas
 pub mod Held
 pub mod Numbered
+pub mod TermLemmas

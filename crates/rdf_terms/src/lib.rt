@@ -3,6 +3,8 @@
 
 mod names;
 mod terms;
+#[cfg(test)]
+mod tests;
 mod triples;
 
 pub use names::{NAME_LIMIT, NameFault, Names};
