@@ -1,0 +1,4 @@
+pub mod Sets
+pub mod Utf8
+pub mod Steps
+pub mod Escapes
