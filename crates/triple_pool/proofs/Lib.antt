@@ -1,0 +1,11 @@
+pub mod Along
+pub mod Building
+pub mod Chaining
+pub mod Listing
+pub mod Nearest
+pub mod Pooling
+pub mod Releasing
+pub mod Setting
+pub mod Storing
+pub mod Tabling
+pub mod Walking
