@@ -1,0 +1,10 @@
+pub mod Lists
+pub mod First
+pub mod Grow
+pub mod Taking
+pub mod Extract
+pub mod Counts
+pub mod Linked
+pub mod Steps
+pub mod Whole
+pub mod Picked
