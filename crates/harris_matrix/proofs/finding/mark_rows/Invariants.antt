@@ -1,0 +1,7 @@
+use Rattle.order_laws.specs.Closure.{reach_between}
+use Rattle.harris_matrix.specs.Cells.{ends_before}
+use Rattle.harris_matrix.specs.Rows.{IsMarked}
+use Rattle.harris_matrix.proofs.finding.mark_rows.Given as goal
+
+abbrev pub invariant-loop-a : goal.invariant-loop-a
+invariant-loop-a l = IsMarked (ends_before (reach_between l.set.list)) l.least l.a-index l.marks.items

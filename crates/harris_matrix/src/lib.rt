@@ -1,0 +1,12 @@
+//! The Harris matrix of periods: cells, levels, covers, and walks along covers.
+#![tactic(auto)]
+
+mod cells;
+mod covering;
+mod finding;
+mod levels;
+mod matrix;
+mod rows;
+
+pub use cells::{Cell, CellList, CellPair, PairList};
+pub use matrix::Matrix;
