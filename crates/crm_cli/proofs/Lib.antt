@@ -1,0 +1,4 @@
+pub mod OrderSteps
+pub mod OrdersText
+pub mod Endings
+pub mod Steps

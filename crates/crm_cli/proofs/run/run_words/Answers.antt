@@ -1,0 +1,14 @@
+use Rattle.std.proofs.Common.{◌∙◌, sym}
+use Rattle.crm_outside.specs.Causes.{Rose}
+use Rattle.crm_cli.proofs.Endings.{no_command, no_command_honest}
+use Rattle.crm_cli.proofs.run.run_words.Goals as goal
+
+pub returns-clause-report : goal.returns-clause-report
+returns-clause-report g c =
+    no_command g.W.Sink.written g.W.Sink.faults g.W.Sink.sure _ _ _ (Rose (g.S.Shelf.faults c.args.shelf.now) (g.S.Shelf.faults c.args.shelf.now)) _ _ (sym c.in-None.is ∙ c.in-Ok.ensures) (rw c.as_bytes.ensures.value at c.print_report.ensures)
+
+pub returns-clause-honest : goal.returns-clause-honest
+returns-clause-honest g c = λ _. no_command_honest g.W.Sink.written g.W.Sink.faults g.W.Sink.sure _ _ _ ⊥ _ _ (sym c.in-None.is ∙ c.in-Ok.ensures) (rw c.as_bytes.ensures.value at c.print_report.ensures)
+
+pub returns-clause-no_form : goal.returns-clause-no_form
+returns-clause-no_form g c = λ _. rw c.as_bytes.ensures.value at c.print_report.ensures

@@ -1,0 +1,8 @@
+pub mod Exits
+pub mod Extents
+pub mod Outcomes
+pub mod Report
+pub mod Statements
+pub mod Stops
+pub mod Texts
+pub mod Words

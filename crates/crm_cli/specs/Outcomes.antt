@@ -1,0 +1,36 @@
+-- What a run does to its sink, and how it ends.
+use Rattle.std.specs.Prelude.{◌≡◌, ◌⊎◌, ℕ, List, Option, Some, None, codes}
+use Rattle.crm_outside.specs.Printing.{Printed, Broken}
+use Rattle.crm_outside.specs.declared.printing.PrintFault.TheVariants.{Failed, Memory as NoMemory}
+use Rattle.crm_cli.specs.declared.status.Status.{Status}
+use Rattle.crm_cli.specs.declared.status.Status.TheVariants.{Done, Findings, Refused, Usage, ReadFault, WriteFault, Memory}
+use Rattle.crm_cli.specs.declared.orders.OrdersFault.{OrdersFault}
+use Rattle.crm_cli.specs.declared.orders.OrdersFault.TheVariants.{NoStatement, Memory as Starved}
+use Rattle.crm_cli.specs.declared.words.Command.{Command}
+use Rattle.crm_cli.specs.Words.{file_of}
+use Rattle.crm_cli.specs.Report.{Report, read_fault_report, refused}
+
+module _ {S : Type 0} (written : S → Option (List ℕ)) (faults sure : S → ℕ) (old new : S) where
+  -- the whole text at its own status, and a front of it where the sink failed or memory was wanting
+  abbrev pub Outcome : Report → Status → Type 0
+  Outcome r Done = (r.status ≡ Done) × Printed written faults sure old new r.text
+  Outcome r Findings = (r.status ≡ Findings) × Printed written faults sure old new r.text
+  Outcome r Refused = (r.status ≡ Refused) × Printed written faults sure old new r.text
+  Outcome r Usage = (r.status ≡ Usage) × Printed written faults sure old new r.text
+  Outcome r ReadFault = (r.status ≡ ReadFault) × Printed written faults sure old new r.text
+  Outcome r WriteFault = Broken written faults sure old new r.text Failed
+  Outcome r Memory = Broken written faults sure old new r.text NoMemory
+
+  -- the whole text with its own status, or want of memory
+  abbrev pub IsComplete : Report → Status → Type 0
+  IsComplete r status = (status ≡ Memory) ⊎ ((status ≡ r.status) × Printed written faults sure old new r.text)
+
+  -- where the shelf's count rose: the line of a read fault, with the file that the words name
+  abbrev pub Faulted : Type 0 → Option Command → Status → Type 0
+  Faulted rose None status = ⊥
+  Faulted rose (Some command) status = rose × Outcome (read_fault_report (file_of command)) status
+
+  -- what is printed where there is no list of orders
+  abbrev pub FaultOutcome : OrdersFault → Status → Type 0
+  FaultOutcome (NoStatement at) status = Outcome (refused (codes "N2") at) status
+  FaultOutcome Starved status = (r : Report) → Outcome r status

@@ -1,0 +1,62 @@
+//! A temporal reasoner over CIDOC CRM records: reads plain lines of N-Triples that state the eight temporal primitives, and
+//! prints the orders between the starts and the ends of their periods.
+#![tactic(auto)]
+
+mod extents;
+mod lines;
+mod orders;
+mod report;
+mod run;
+mod statements;
+mod status;
+#[cfg(test)]
+mod tests;
+mod words;
+
+ghost use Rattle.std.specs.Prelude.{◌≡◌};
+ghost use Rattle.crm_cli.specs.Exits.{exit_status};
+
+use crate::run::run;
+use crate::status::Status;
+use crm_outside::{DirShelf, StdSink};
+use std::process::ExitCode;
+use std::rt::Env;
+use std::{env, io};
+
+// The exit status of an outcome.
+fn exit_code(status: Status) -> u8
+    ensures { result ≡ exit_status status }
+{
+    match status {
+        Status::Done => 0,
+        Status::Findings => 1,
+        Status::Refused => 2,
+        Status::Usage => 3,
+        Status::ReadFault => 4,
+        Status::WriteFault => 5,
+        Status::Memory => 6,
+    }
+}
+
+// The words after the program's name.
+fn given_words(rt: &(impl Env + AllocGlobal)) -> io::Result<Vec<String>> {
+    let mut words = Vec::new(rt.alloc());
+    for word in env::args(rt)?.skip(1) {
+        words.push(word)?;
+    }
+    Ok(words)
+}
+
+/// Ends with the status of the run, with 6 where there is no memory for the words, and with 7 where the system refuses
+/// them for another cause.
+fn main(rt: HostRuntime) -> ExitCode {
+    match given_words(&rt) {
+        Ok(words) => {
+            let mut shelf = DirShelf::new(&rt);
+            let mut out = StdSink::new(&rt);
+            ExitCode::from(exit_code(run(rt.alloc(), words.as_slice(), &mut shelf, &mut out)))
+        }
+        Err(error) if error.kind() == io::ErrorKind::OutOfMemory => ExitCode::from(6),
+        Err(_) => ExitCode::from(7),
+    }
+}
