@@ -8,3 +8,4 @@ pub mod Linked
 pub mod Steps
 pub mod Whole
 pub mod Picked
+pub mod Computed

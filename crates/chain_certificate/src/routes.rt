@@ -2,6 +2,7 @@
 ghost use Rattle.std.specs.Prelude.{◌≡◌, ℕ, ◌+◌, ◌*◌, ◌<◌, ◌≤◌, length, List, true, slice_index_or, IfOk, IfSome, IfNone};
 ghost use Rattle.order_laws.specs.declared.Point.{Point};
 ghost use Rattle.order_laws.specs.Chains.{IsChain, shows_strict, HasCycle};
+ghost use Rattle.order_laws.specs.ChainSearch.{first_chain, first_cycle};
 ghost use Rattle.order_laws.specs.FirstChains.{IsFirstChain, IsFirstCycle};
 ghost use Rattle.order_laws.specs.Points.{number_of};
 ghost use Rattle.order_laws.specs.Tables.{IsPoint};
@@ -132,6 +133,8 @@ impl Routes {
             IsFirstChain set.list source target strict c)) }
         ensures none { IfOk result (λ o. IfNone o ((set : Orders) (source : Point) → IsRoutesOf set source self.now →
             (ns : List ℕ) → IsChain set.list source target ns → ¬ (strict ≡ true → shows_strict set.list ns ≡ true))) }
+        ensures computed { IfOk result (λ o. (set : Orders) (source : Point) → IsRoutesOf set source self.now →
+            o ≡ first_chain set.list source target strict) }
     {
         let node = self.node(target, strict);
         if node == 0 {
@@ -165,6 +168,7 @@ pub fn cycle(
     requires closure { IsClosureOf set.now closure.now }
     ensures some { IfOk result (λ o. IfSome o (IsFirstCycle set.now.list set.now.extents (length set.now.dates))) }
     ensures none { IfOk result (λ o. IfNone o (¬ HasCycle set.now.list)) }
+    ensures computed { IfOk result (λ o. o ≡ first_cycle set.now.list set.now.extents (length set.now.dates)) }
 {
     let Some(point) = closure.strict_loop() else {
         return Ok(None);

@@ -1,8 +1,9 @@
 // The table of what follows between any two points.
-ghost use Rattle.std.specs.Prelude.{◌≡◌, ℕ, ◌+◌, ◌*◌, ◌^◌, ◌<◌, ◌≤◌, ◌↔◌, List, [], ◌∷◌, ◌++◌, length, IfOk, OnOk, IfSome, IfNone, Bool, true, ◌≢◌, slice_index_or};
+ghost use Rattle.std.specs.Prelude.{◌≡◌, ℕ, ◌+◌, ◌*◌, ◌^◌, ◌<◌, ◌≤◌, ◌↔◌, List, [], ◌∷◌, ◌++◌, length, IfOk, OnOk, IfSome, IfNone, Bool, true, not, ◌≢◌, slice_index_or};
 ghost use Rattle.order_laws.specs.declared.Point.{Point};
 ghost use Rattle.order_laws.specs.declared.Reach.TheVariants.{None as Nothing, Lt};
 ghost use Rattle.order_laws.specs.Chains.{HasCycle};
+ghost use Rattle.order_laws.specs.Closure.{reach_between, first_strict_loop, has_strict_loop};
 ghost use Rattle.order_laws.specs.FirstChains.{IsFirstLoop};
 ghost use Rattle.order_laws.specs.Points.{number_of};
 ghost use Rattle.order_laws.specs.Tables.{IsPoint, IsBase};
@@ -103,6 +104,7 @@ impl Closure {
         requires y_in_range { IsPoint self.now.extents self.now.dates y }
         ensures entry { result ≡ between self.now x y }
         ensures follows { (set : Orders) → IsClosureOf set self.now → IsReach set.list x y result }
+        ensures computed { (set : Orders) → IsClosureOf set self.now → result ≡ reach_between set.list x y }
     {
         self.entry(x, y)
     }
@@ -131,6 +133,15 @@ impl Closure {
     pub fn strict_loop(&self) -> Option<Point>
         ensures some { IfSome result (λ x. (set : Orders) → IsClosureOf set self.now → IsFirstLoop set.list set.extents (length set.dates) x) }
         ensures none { IfNone result ((set : Orders) → IsClosureOf set self.now → ¬ HasCycle set.list) }
+        ensures computed { (set : Orders) → IsClosureOf set self.now → result ≡ first_strict_loop set.list set.extents (length set.dates) }
+    {
+        self.find_loop()
+    }
+
+    // Tries the points in their order.
+    fn find_loop(&self) -> Option<Point>
+        ensures some { IfSome result (λ x. (set : Orders) → IsClosureOf set self.now → IsFirstLoop set.list set.extents (length set.dates) x) }
+        ensures none { IfNone result ((set : Orders) → IsClosureOf set self.now → ¬ HasCycle set.list) }
     {
         let (extents, dates) = (self.extents, self.dates);
         for k in 0..2 * extents + dates {
@@ -146,6 +157,7 @@ impl Closure {
     pub fn is_consistent(&self) -> bool
         ensures yes { result ≡ true → (set : Orders) → IsClosureOf set self.now → ¬ HasCycle set.list }
         ensures no { ¬ (result ≡ true) → (set : Orders) → IsClosureOf set self.now → HasCycle set.list }
+        ensures computed { (set : Orders) → IsClosureOf set self.now → result ≡ not (has_strict_loop set.list set.extents (length set.dates)) }
     {
         self.strict_loop().is_none()
     }
