@@ -1,16 +1,19 @@
 -- Each step makes the input shorter, so the count of steps does not matter.
-use Rattle.std.proofs.Common.{ℕ, zero, suc, List, [], ◌∷◌, ◌++◌, ◌≡◌, ◌<◌, ◌≤◌, ◌+◌, ◌-◌, length, take, drop, refl, ap, sym, ◌∙◌, subst, arith}
-use Rattle.std.proofs.lemmas.List.{length-drop, length-take-le}
-use Rattle.std.proofs.lemmas.Bool.{cond_both}
-use Rattle.std.specs.Prelude.{Bool, true, false, ◌||◌, cond}
+use Rattle.std.proofs.Common.{ℕ, zero, suc, List, [], ◌∷◌, ◌≡◌, ◌<◌, ◌≤◌, length, take, drop, refl, arith}
+use Rattle.std.proofs.lemmas.List.{length-drop}
+use Rattle.std.proofs.lemmas.Bool.{cond_both, false≢true, and_parts}
+use Rattle.std.specs.Prelude.{true, false, ◌||◌, ◌==◌, nat_eq}
 use Rattle.std.specs.Str.{bytes_eq}
-use Rattle.iri_resolve.specs.Dots.{up_slash, dot_slash, slash_dot_slash, slash_dot, slash_up_slash, slash_up, dot, up, starts, without_last, segment_length, dot_step, without_dots_from, without_dots}
+use Rattle.iri_resolve.specs.Dots.{up_slash, dot_slash, slash_dot_slash, slash_dot, slash_up_slash, slash_up, dot, up, starts, segment_length, dot_step, without_dots_from}
 
 drop_shorter : (n b : ℕ) (input : List ℕ) → 0 < n → length (drop n (b ∷ input)) ≤ length input
 drop_shorter n b input h = omega (arith, length-drop n (b ∷ input))
 
 take_shorter : (b : ℕ) (input front : List ℕ) → bytes_eq (b ∷ input) front ≡ true → 2 ≤ length front → length (take 1 (b ∷ input)) ≤ length input
-take_shorter b input front e h = ?
+take_shorter b (x ∷ input) front e h = omega arith
+take_shorter b [] [] e h = absurd (omega arith)
+take_shorter b [] (x ∷ []) e h = absurd (omega arith)
+take_shorter b [] (x ∷ y ∷ front) e h = absurd (false≢true (and_parts (nat_eq b x) (bytes_eq [] (y ∷ front)) e).1)
 
 pub shorter : (b : ℕ) (input output : List ℕ) → length (dot_step (b ∷ input) output).0 ≤ length input
 shorter b input output =
@@ -40,3 +43,7 @@ next_step (b ∷ input) output h = enough (length input) (length (dot_step (b �
 pub step_shorter : (input output : List ℕ) → 0 < length input → length (dot_step input output).0 < length input
 step_shorter [] output h = absurd (omega arith)
 step_shorter (b ∷ input) output h = omega (arith, shorter b input output)
+
+pub some_left : (text : List ℕ) → false ≡ (length text == 0) → 0 < length text
+some_left [] e = absurd (false≢true e)
+some_left (b ∷ text) e = omega arith

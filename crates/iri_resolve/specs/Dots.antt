@@ -1,5 +1,5 @@
 -- How dot segments are removed from a path: by steps from an input to an output.
-use Rattle.std.specs.Prelude.{ℕ, zero, suc, ◌+◌, ◌-◌, ◌==◌, ◌||◌, List, [], ◌∷◌, ◌++◌, length, take, drop, Bool, not, cond, nat_eq, get_or}
+use Rattle.std.specs.Prelude.{ℕ, zero, suc, ◌+◌, ◌-◌, ◌==◌, ◌||◌, List, [], ◌∷◌, ◌++◌, length, take, drop, Bool, not, cond, nat_eq}
 use Rattle.std.specs.List.{prefix_len, suffix_len, starts_with}
 use Rattle.std.specs.Str.{bytes_eq}
 

@@ -1,5 +1,5 @@
 -- How a reference without scheme is resolved against a base, as RFC 3986 has it.
-use Rattle.std.specs.Prelude.{ℕ, ◌==◌, ◌&&◌, List, [], ◌∷◌, ◌++◌, take, Bool, true, false, cond, Option, None, Some, get_or}
+use Rattle.std.specs.Prelude.{ℕ, ◌&&◌, List, [], ◌∷◌, ◌++◌, take, Bool, true, false, cond, Option, None, Some, get_or}
 use Rattle.std.specs.List.{slice_range}
 use Rattle.iri_resolve.specs.declared.splitting.Span.{Span}
 use Rattle.iri_resolve.specs.declared.splitting.Parts.{Parts}
@@ -38,9 +38,21 @@ abbrev pub marked : List ℕ → Option (List ℕ) → List ℕ → List ℕ
 marked before None after = []
 marked before (Some text) after = before ++ (text ++ after)
 
+abbrev pub colon : List ℕ
+colon = 0x3A ∷ []
+
+abbrev pub slashes : List ℕ
+slashes = 0x2F ∷ 0x2F ∷ []
+
+abbrev pub question : List ℕ
+question = 0x3F ∷ []
+
+abbrev pub number_sign : List ℕ
+number_sign = 0x23 ∷ []
+
 -- The text that is put together from the parts that are there.
 abbrev pub recomposed : Pieces → List ℕ
-recomposed p = marked [] p.scheme (0x3A ∷ []) ++ (marked (0x2F ∷ 0x2F ∷ []) p.authority [] ++ (p.path ++ (marked (0x3F ∷ []) p.query [] ++ marked (0x23 ∷ []) p.fragment [])))
+recomposed p = marked [] p.scheme colon ++ (marked slashes p.authority [] ++ (p.path ++ (marked question p.query [] ++ marked number_sign p.fragment [])))
 
 abbrev pub is_empty : List ℕ → Bool
 is_empty [] = true

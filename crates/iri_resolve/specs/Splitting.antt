@@ -1,5 +1,5 @@
 -- The parts of a reference, as RFC 3986 splits it.
-use Rattle.std.specs.Prelude.{ℕ, ◌+◌, ◌==◌, ◌&&◌, ◌||◌, List, [], ◌∷◌, length, drop, Bool, true, false, not, cond, nat_eq, Option, None, Some, get_or}
+use Rattle.std.specs.Prelude.{ℕ, ◌≤◌, ⊤, ◌+◌, ◌==◌, ◌&&◌, ◌||◌, List, [], ◌∷◌, length, drop, Bool, true, false, not, cond, nat_eq, Option, None, Some, get_or}
 use Rattle.std.specs.List.{prefix_len, list_any, starts_with}
 use Rattle.std.specs.Char.{is_ascii_alphabetic, is_ascii_alphanumeric}
 use Rattle.iri_resolve.specs.declared.splitting.Span.{Span}
@@ -82,3 +82,18 @@ split_from text scheme authority = split_behind text scheme authority (path_span
 -- The parts of the text by their places.
 abbrev pub split : List ℕ → Parts
 split text = split_from text (scheme_length text) (authority_span text (behind_scheme (scheme_length text)))
+
+-- The part lies in the text.
+abbrev pub IsWithin : List ℕ → Span → Type 0
+IsWithin text span = (span.from ≤ span.to) × (span.to ≤ length text)
+
+abbrev pub IsWithinIfThere : List ℕ → Option Span → Type 0
+IsWithinIfThere text None = ⊤
+IsWithinIfThere text (Some span) = IsWithin text span
+
+pub record AreWithin (text : List ℕ) (parts : Parts) : Type 0 where
+  pub scheme : IsWithinIfThere text parts.scheme
+  pub authority : IsWithinIfThere text parts.authority
+  pub path : IsWithin text parts.path
+  pub query : IsWithinIfThere text parts.query
+  pub fragment : IsWithinIfThere text parts.fragment

@@ -2,6 +2,10 @@
 #![tactic(auto)]
 
 mod dots;
+mod resolution;
 mod splitting;
+#[cfg(test)]
+mod tests;
 
-pub use splitting::{has_scheme, split, Parts, Span};
+pub use resolution::{ResolveFault, resolve};
+pub use splitting::{Parts, Span, has_scheme, split};

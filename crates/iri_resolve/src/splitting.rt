@@ -31,13 +31,18 @@ fn is_scheme_byte(byte: u8) -> bool
 }
 
 fn scheme_length(text: &[u8]) -> Option<usize>
-    ensures { result ≡ spec.scheme_length text.now }
+    ensures length { result ≡ spec.scheme_length text.now }
+    ensures within { spec.behind_scheme result ≤ length text.now }
 {
     let mut n = 0;
     while n < text.len() && is_scheme_byte(text[n]) {
         n += 1;
     }
-    if n < text.len() && text[n] == b':' && text[0].is_ascii_alphabetic() { Some(n) } else { None }
+    if n < text.len() && text[n] == b':' && text[0].is_ascii_alphabetic() {
+        Some(n)
+    } else {
+        None
+    }
 }
 
 /// Whether the text begins with a scheme: a letter, then letters, digits, `+`, `-` and `.`, then a colon.
@@ -51,6 +56,7 @@ pub fn has_scheme(text: &str) -> bool
 fn until(ends: &[u8], text: &[u8], from: usize) -> usize
     requires { from ≤ length text.now }
     ensures place { result ≡ spec.until ends.now text.now from }
+    ensures from { from ≤ result }
     ensures within { result ≤ length text.now }
 {
     let mut at = from;
@@ -63,6 +69,7 @@ fn until(ends: &[u8], text: &[u8], from: usize) -> usize
 fn authority(text: &[u8], at: usize) -> Option<Span>
     requires { at ≤ length text.now }
     ensures span { result ≡ spec.authority_span text.now at }
+    ensures there { spec.IsWithinIfThere text.now result }
     ensures within { spec.behind result at ≤ length text.now }
 {
     if text[at..].starts_with(b"//") {
@@ -78,6 +85,7 @@ fn authority(text: &[u8], at: usize) -> Option<Span>
 fn query(text: &[u8], at: usize) -> Option<Span>
     requires { at ≤ length text.now }
     ensures span { result ≡ spec.query_span text.now at }
+    ensures there { spec.IsWithinIfThere text.now result }
     ensures within { spec.behind result at ≤ length text.now }
 {
     if at < text.len() && text[at] == b'?' {
@@ -91,7 +99,8 @@ fn query(text: &[u8], at: usize) -> Option<Span>
 }
 
 fn fragment(text: &[u8], at: usize) -> Option<Span>
-    ensures { result ≡ spec.fragment_span text.now at }
+    ensures span { result ≡ spec.fragment_span text.now at }
+    ensures there { spec.IsWithinIfThere text.now result }
 {
     if at < text.len() && text[at] == b'#' {
         Some(Span {
@@ -112,6 +121,15 @@ fn behind(span: Option<Span>, at: usize) -> usize
     }
 }
 
+fn scheme_span(scheme: Option<usize>) -> Option<Span>
+    ensures { result ≡ spec.scheme_span scheme }
+{
+    match scheme {
+        Some(n) => Some(Span { from: 0, to: n }),
+        None => None,
+    }
+}
+
 /// The places of a reference's parts.
 pub fn split(text: &str) -> Parts
     ensures { result ≡ spec.split text.now }
@@ -120,7 +138,8 @@ pub fn split(text: &str) -> Parts
 }
 
 pub(crate) fn split_bytes(text: &[u8]) -> Parts
-    ensures { result ≡ spec.split text.now }
+    ensures parts { result ≡ spec.split text.now }
+    ensures within { spec.AreWithin text.now result }
 {
     let scheme = scheme_length(text);
     let start = match scheme {
@@ -135,7 +154,7 @@ pub(crate) fn split_bytes(text: &[u8]) -> Parts
     };
     let query = query(text, path.to);
     Parts {
-        scheme: scheme.map(|n| Span { from: 0, to: n }),
+        scheme: scheme_span(scheme),
         authority,
         path,
         query,

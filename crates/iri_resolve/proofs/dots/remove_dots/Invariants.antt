@@ -1,6 +1,5 @@
 use Rattle.std.proofs.Common.{◌≡◌, ◌≤◌, length, take, drop}
 use Rattle.iri_resolve.specs.Dots.{without_dots_from, without_dots}
-use Rattle.iri_resolve.proofs.Removal.{next_step, step_shorter}
 use Rattle.iri_resolve.proofs.dots.remove_dots.Given as goal
 
 abbrev pub invariant-loop-rest : goal.invariant-loop-rest

@@ -1,4 +1,4 @@
-use Rattle.std.proofs.Common.{◌≡◌, ◌≤◌, ◌+◌, ◌-◌, length, take}
+use Rattle.std.proofs.Common.{◌≡◌, ◌≤◌, ◌+◌, length, take}
 use Rattle.std.specs.List.{suffix_len}
 use Rattle.iri_resolve.specs.Dots.{no_slash}
 use Rattle.iri_resolve.proofs.dots.through_last_slash.Given as goal
