@@ -1,0 +1,11 @@
+use Rattle.std.proofs.Common.{◌≡◌, map, take}
+use Rattle.std.specs.Prelude.{flat_map}
+use Rattle.order_laws.specs.Tables.{built_at}
+use Rattle.order_closure.specs.Closures.{between}
+use Rattle.placing_witness.specs.Prepared.{lower_row}
+use Rattle.placing_witness.proofs.placings.plain_positions.Given as goal
+
+abbrev pub invariant-loop-n : goal.invariant-loop-n
+invariant-loop-n l =
+    (l.positions.items ≡ map (built_at l.closure.extents l.dates (between l.closure)) (take l.n l.points))
+    × (l.lower.items ≡ flat_map (lower_row (between l.closure) l.points l.words) (take l.n l.points))
