@@ -5,3 +5,4 @@ pub mod Linking
 pub mod Tabling
 pub mod Walks
 pub mod Loops
+pub mod Ahead

@@ -7,6 +7,8 @@ mod links;
 mod numbers;
 mod search;
 mod steps;
+#[cfg(test)]
+mod tests;
 
 pub use closure::Closure;
 pub use edges::{EdgeWalk, Edges};
