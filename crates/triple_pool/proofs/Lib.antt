@@ -3,6 +3,7 @@ pub mod Building
 pub mod Chaining
 pub mod Listing
 pub mod Nearest
+pub mod Pairing
 pub mod Pooling
 pub mod Releasing
 pub mod Setting

@@ -4,11 +4,13 @@
 ghost use Rattle.std.specs.Prelude.{◌≡◌, ◌<◌, length, IfSome};
 ghost use Rattle.triple_pool.specs.Chains.{links_at, with_links, next_set, before_set};
 
+mod pairs;
 mod pool;
 mod store;
 mod table;
 mod walk;
 
+pub use pairs::Pairs;
 pub use pool::TriplePool;
 use rdf_terms::Triple;
 pub use walk::Walk;

@@ -1,5 +1,5 @@
 // Distinct triples in numbered records.
-ghost use Rattle.std.specs.Prelude.{◌≡◌, ◌+◌, ◌<◌, ◌≤◌, ◌++◌, [], ◌∷◌, ◌⊎◌, length, true, false, Some, None, MatchOption, MatchResult, IfOk, IsErrOf, OnOk, OnErr};
+ghost use Rattle.std.specs.Prelude.{◌≡◌, ◌+◌, ◌<◌, ◌≤◌, ◌++◌, [], ◌∷◌, ◌⊎◌, length, true, false, Some, None, Ok, MatchOption, MatchResult, IfOk, IsErrOf, OnOk, OnErr};
 ghost use Rattle.rdf_terms.specs.declared.terms.Triple.{Triple};
 ghost use Rattle.triple_pool.specs.declared.Slot.{Slot};
 ghost use Rattle.triple_pool.specs.declared.PoolFault.{PoolFault};
@@ -8,6 +8,7 @@ ghost use Rattle.triple_pool.specs.Pool.{Numbered, numbers_with, triple_of, with
 ghost use Rattle.triple_pool.specs.Tables.{IsRecordOf};
 ghost use Rattle.triple_pool.specs.Answers.{Adds, Fails};
 
+use crate::pairs::Pairs;
 use crate::store::{contains, is_held_at, make_room, release, store};
 use crate::table::ends_of;
 use crate::walk::Walk;
@@ -89,6 +90,17 @@ impl TriplePool {
         }
     }
 
+    /// The held triples with their numbers, ascending.
+    pub fn iter(&self) -> Pairs<'_>
+        ensures pairs { result ≡ self.now.pairs }
+        ensures ascending { IsNumberedFrom 0 self.now.pairs }
+    {
+        Pairs {
+            rest: self.slots.as_slice(),
+            at: 0,
+        }
+    }
+
     /// The numbers of the triples with this subject, ascending.
     pub fn by_subject(&self, t: Term) -> Walk<'_>
         ensures numbers { result ≡ numbers_with Subject t self.now.pairs }
@@ -135,6 +147,7 @@ impl TriplePool {
     /// A triple that is not added leaves all as before.
     pub fn add(&mut self, t: Triple) -> Result<Option<u32>, PoolFault>
         ensures answer { MatchResult result (Adds self.old self.new t) (Fails self.old self.new t) }
+        ensures known { is_held t self.old.pairs ≡ true → result ≡ Ok None }
         ensures full { is_held t self.old.pairs ≡ false → self.old.used ≡ 262144 → IsErrOf result PoolFault.Full }
     {
         if contains(self.slots.as_slice(), &self.numbers, t) {
