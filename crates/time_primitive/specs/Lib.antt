@@ -1,0 +1,4 @@
+pub mod Forms
+pub mod Machine
+pub mod Parts
+pub mod Dates
