@@ -1,5 +1,5 @@
 -- The matrix from what was found.
-use Rattle.std.proofs.Common.{arith, zero, suc, ◌≡◌, ◌<◌, ◌≤◌, ◌+◌, inl, inr, ℕ, Bool, true, false, cond, List, [], ◌∷◌, ◌++◌, length, get_or, refl, sym, ap, ap₂, subst, ◌∙◌}
+use Rattle.std.proofs.Common.{arith, zero, suc, ◌≡◌, ◌<◌, ◌≤◌, ◌+◌, ◌^◌, inl, inr, ℕ, Bool, true, false, cond, List, [], ◌∷◌, ◌++◌, length, get_or, refl, sym, ap, ap₂, subst, ◌∙◌}
 use Rattle.std.specs.Prelude.{filter}
 use Rattle.std.proofs.lemmas.List.{get_or_append_left, get_or_push, length_push}
 use Rattle.std.proofs.lemmas.Bool.{cases_Bool, cases_eq}
@@ -10,9 +10,11 @@ use Rattle.order_laws.specs.Closure.{reach_between}
 use Rattle.harris_matrix.specs.declared.cells.Cell.{Cell}
 use Rattle.harris_matrix.specs.declared.cells.CellPair.{CellPair}
 use Rattle.harris_matrix.specs.Cells.{AreExtents, members, comes_before}
-use Rattle.harris_matrix.specs.Covers.{all_covers}
-use Rattle.harris_matrix.specs.Levels.{IsLevel, AreLevels}
+use Rattle.harris_matrix.specs.Covers.{all_covers, starts_of}
+use Rattle.harris_matrix.specs.Levels.{IsLevel, AreLevels, IsOrdering}
 use Rattle.harris_matrix.specs.Matrices.{Cells, IsMatrixOf, cells_below, no_cell, least_of, is_before}
+use Rattle.harris_matrix.specs.Walks.{IsLaidOut}
+use Rattle.harris_matrix.proofs.Pairs.{laid_out}
 use Rattle.harris_matrix.proofs.Agreeing.{all_covers_same, level_same}
 
 -- what is kept of extents is of extents, and no more than they
@@ -86,3 +88,15 @@ matrix_of orders periods least levels cells pairs marks own agree are_levels are
 
     agree' : (i j : ℕ) → i < length least → j < length least → marks i j ≡ is_before orders periods i j
     agree' i j h l = agree i j h l ∙ ap (λ ls. comes_before table ls i j) own
+
+pub laid : (before : ℕ → ℕ → Bool) (n m : ℕ) (pairs : List CellPair) (starts cells : List ℕ) → m ≡ n → pairs ≡ all_covers before n → starts ≡ starts_of before n n → n ≤ 2 ^ 16 →
+    IsOrdering before n cells → IsLaidOut m pairs starts cells
+laid before n m pairs starts cells size are_pairs are_starts few ordering =
+    let P : ℕ → Type 0 = λ k. IsLaidOut k pairs starts cells in
+    let Q : List CellPair → Type 0 = λ ps. IsLaidOut n ps starts cells in
+    let R : List ℕ → Type 0 = λ ss. IsLaidOut n (all_covers before n) ss cells in
+    subst P (sym size) (subst Q (sym are_pairs) (subst R (sym are_starts) (laid_out before n cells few ordering)))
+
+pub length-cells : (table : Point → Point → Reach) (periods least levels : List ℕ) (cells : List Cell) →
+    cells ≡ cells_below table periods least levels (length least) → length cells ≡ length least
+length-cells table periods least levels cells e = ap length e ∙ length-cells_below table periods least levels (length least)

@@ -2,7 +2,9 @@ pub mod Agreeing
 pub mod Building
 pub mod Levelling
 pub mod Marking
+pub mod Measuring
 pub mod Pairs
 pub mod Ranking
+pub mod Reading
 pub mod Standing
 pub mod Striking

@@ -7,6 +7,7 @@ mod finding;
 mod levels;
 mod matrix;
 mod rows;
+mod walking;
 
 pub use cells::{Cell, CellList, CellPair, PairList};
 pub use matrix::Matrix;

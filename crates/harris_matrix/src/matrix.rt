@@ -5,12 +5,14 @@ ghost use Rattle.order_laws.specs.Closure.{reach_between};
 ghost use Rattle.order_closure.specs.Closures.{IsClosureOf};
 ghost use Rattle.harris_matrix.specs.Cells.{AreExtents, ends_before, comes_before};
 ghost use Rattle.harris_matrix.specs.Matrices.{IsMatrixOf, cells_below};
+ghost use Rattle.harris_matrix.specs.Walks.{IsWalkBetween};
 ghost use Rattle.harris_matrix.specs.Rows.{AreRows, IsMarked, IsStrictOrder, mark_at};
 
 use crate::covering::find_covers;
 use crate::finding::{mark_rows, members, representatives};
 use crate::levels::{find_levels, order_cells};
 use crate::rows::Rows;
+use crate::walking::{measure, read_walk};
 use crate::{Cell, CellList, PairList};
 use crm_outside::Numbers;
 use order_closure::Closure;
@@ -76,14 +78,20 @@ fn make_cells(
 pub struct Matrix {
     cells: CellList,
     covers: PairList,
+    starts: Vec<usize>,
+    order: Vec<u32>,
 }
 
 impl Model for Matrix {
+    ghost use Rattle.std.specs.Prelude.{length};
     ghost use Rattle.harris_matrix.specs.Matrices.{Cells};
+    ghost use Rattle.harris_matrix.specs.Walks.{IsLaidOut};
 
     ghost Value = { Cells };
 
     ghost view = { λ m. record { cells = m.cells; covers = m.covers } };
+
+    ghost invariant = { λ m. IsLaidOut (length m.cells) m.covers m.starts.items m.order.items };
 }
 
 impl Matrix {
@@ -110,6 +118,8 @@ impl Matrix {
         Ok(Matrix {
             cells,
             covers: covered.pairs,
+            starts: covered.starts,
+            order,
         })
     }
 
@@ -125,5 +135,25 @@ impl Matrix {
         ensures { result.now ≡ self.now.covers }
     {
         &self.covers
+    }
+
+    /// The walk from cell i to cell j along the fewest covers, and among these the one with the least list of
+    /// cover numbers; None exactly where cell i is not before cell j.
+    pub fn walk(&self, alloc: Global, i: u32, j: u32) -> Result<Option<Numbers>, AllocError>
+        ensures { IfOk result (IsWalkBetween self.now.covers i j) }
+    {
+        let count = self.cells.len() as u32;
+        if i >= count || j >= count || i == j {
+            return Ok(None);
+        }
+        let pairs = self.covers.as_slice();
+        let lengths = measure(alloc, pairs, &self.starts, &self.order, count, j)?;
+        match lengths[i as usize] {
+            None => Ok(None),
+            Some(size) => {
+                let walk = read_walk(alloc, pairs, &self.starts, &lengths, count, i, size)?;
+                Ok(Some(walk))
+            }
+        }
     }
 }

@@ -8,7 +8,7 @@ use Rattle.harris_matrix.specs.Covers.{all_covers}
 use Rattle.harris_matrix.specs.Levels.{AreLevels}
 use Rattle.harris_matrix.specs.Matrices.{cells_below}
 use Rattle.harris_matrix.specs.Rows.{mark_at}
-use Rattle.harris_matrix.proofs.Building.{matrix_of, kept_extents, kept_few}
+use Rattle.harris_matrix.proofs.Building.{matrix_of, kept_extents, kept_few, laid, length-cells}
 use Rattle.harris_matrix.proofs.matrix.Matrix.build.Goals as goal
 
 pub order_rows-requires-clause-least : goal.order_rows-requires-clause-least
@@ -51,3 +51,13 @@ returns c =
     ∙ ap (λ ps. cells_below table ps c.deref-4.result.now c.deref-5.result.now (length c.deref-4.result.now)) c.as_slice-periods.ensures
     ∙ ap (λ ls. cells_below table periods ls c.deref-5.result.now (length ls)) c.deref-4.ensures.value
     ∙ ap (λ vs. cells_below table periods least vs (length least)) c.deref-5.ensures.value)
+
+pub invariant_of-result : goal.invariant_of-result
+invariant_of-result c =
+    let table : Point → Point → Reach = reach_between c.args.set.now.list in
+    let marks : ℕ → ℕ → Bool = mark_at c.in_ok-rows.rows.count c.in_ok-rows.rows.marks.items in
+    let size : length c.in_ok-cells.cells ≡ c.in_ok-rows.rows.count =
+    length-cells table c.as_slice-periods.result.now c.deref-4.result.now c.deref-5.result.now c.in_ok-cells.cells c.in_ok-cells.ensures
+    ∙ ap length c.deref-4.ensures.value ∙ sym (c.in_ok-rows.ensures.count ∙ ap length c.deref.ensures.value) in
+    laid marks c.in_ok-rows.rows.count (length c.in_ok-cells.cells) c.in_ok-covered.covered.pairs c.in_ok-covered.covered.starts.items c.in_ok-order.order.items
+    size c.in_ok-covered.ensures.pairs c.in_ok-covered.ensures.starts c.in_ok-rows.ensures.rows.few c.in_ok-order.ensures
