@@ -18,7 +18,7 @@ count_at_most (suc n) s t h =
       | inr nay ↦ rw nay (omega (arith, less))
     ]
 
-count_less : (n : ℕ) (s t : ℕ → Bool) → ((k : ℕ) → k < n → s k ≡ true → t k ≡ true) →
+pub count_less : (n : ℕ) (s t : ℕ → Bool) → ((k : ℕ) → k < n → s k ≡ true → t k ≡ true) →
     (k : ℕ) → k < n → s k ≡ false → t k ≡ true → count_below n s < count_below n t
 count_less zero s t h k within nay yea = absurd (omega arith)
 count_less (suc n) s t h k within nay yea = elim (cases_eq k n) [

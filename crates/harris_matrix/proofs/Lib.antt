@@ -1,5 +1,6 @@
 pub mod Agreeing
 pub mod Building
+pub mod Leading
 pub mod Levelling
 pub mod Marking
 pub mod Measuring

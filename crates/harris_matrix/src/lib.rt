@@ -4,6 +4,7 @@
 mod cells;
 mod covering;
 mod finding;
+pub mod laws;
 mod levels;
 mod matrix;
 mod rows;
