@@ -1,5 +1,5 @@
 -- The last day of a month by its first.
-use Rattle.std.proofs.Common.{ℕ, ◌≡◌, sym, ap, ap₂, ◌∙◌}
+use Rattle.std.proofs.Common.{ℕ, ◌≡◌, ap, ap₂, ◌∙◌}
 use Rattle.std.specs.Prelude.{ℤ, pos}
 use Rattle.jiff_core.specs.declared.civil.date.Date.{Date}
 use Rattle.jiff_core.specs.Date.{epoch_day, month_length, IsYmd}

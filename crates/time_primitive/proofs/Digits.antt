@@ -1,5 +1,5 @@
 -- Digits and the numbers that they write.
-use Rattle.std.proofs.Common.{ℕ, zero, suc, List, [], ◌∷◌, ◌≡◌, ◌<◌, ◌≤◌, ◌+◌, ◌*◌, ◌-◌, length, get_or, take, drop, refl, sym, ap, ◌∙◌, arith, inl, inr, subst, length-drop}
+use Rattle.std.proofs.Common.{ℕ, zero, suc, List, [], ◌≡◌, ◌<◌, ◌≤◌, ◌+◌, ◌-◌, length, get_or, take, drop, arith, length-drop}
 use Rattle.std.proofs.lemmas.Int.{ints}
 use Rattle.std.specs.Prelude.{ℤ, pos, neg_ℤ, ◌≤ℤ◌, Option, Some, None, IfSome, cond, Bool, true, false, not, slice_index, ◌&&◌, ◌==◌, nat_le}
 use Rattle.std.specs.List.{position_or_len}
@@ -7,7 +7,6 @@ use Rattle.std.proofs.lemmas.List.{length-take, get_or-take}
 use Rattle.std.proofs.lemmas.List.Sums.{fails_before_first}
 use Rattle.std.proofs.lemmas.Bool.{and_parts, leb-true, not-false, cond_both}
 use Rattle.time_primitive.specs.declared.form.Form.{Form}
-use Rattle.time_primitive.specs.declared.form.Form.TheVariants.{GYear, GYearMonth, Date, DateTime}
 use Rattle.time_primitive.specs.Parts.{digit_at, places, is_digit_byte, digits_of, AreDigits, is_negative, sign_length, year_digits, year_end, year_number, year_of, has_time, fraction_of}
 
 -- at most four digits make a number up to 9999

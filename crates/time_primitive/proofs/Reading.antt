@@ -1,16 +1,16 @@
 -- What the machine has read tells the form of a text, and how much of it begins some text of a form.
 use Rattle.std.proofs.Common.{ℕ, zero, suc, List, [], ◌∷◌, ◌++◌, ◌≡◌, ◌<◌, ◌≤◌, ◌+◌, ◌-◌, length, take, drop, get_or, refl, sym, ap, ap₂, ◌∙◌, arith, inl, inr, subst, append_assoc}
-use Rattle.std.specs.Prelude.{Bool, true, false, cond, not, ◌||◌, ◌⊎◌, Option, None, Some, Ok, Err}
+use Rattle.std.specs.Prelude.{Bool, true, false, not, ◌||◌, ◌⊎◌, Option, None, Some, Ok, Err}
 use Rattle.std.specs.List.{find, list_any}
-use Rattle.std.proofs.lemmas.Bool.{false≢true, true≢false, cases_Bool, cases_eq, or_cases, or_left, or_right, cond-true, cond-false, both_ways, not-true, not-false}
+use Rattle.std.proofs.lemmas.Bool.{false≢true, true≢false, cases_Bool, cases_eq, or_left, or_right, cond-true, cond-false, both_ways}
 use Rattle.std.proofs.Math.Seq.{take-length, take-add}
 use Rattle.text_patterns.specs.Patterns.{Pattern, Matches}
-use Rattle.text_patterns.specs.Derivatives.{nullable, after, is_barren}
+use Rattle.text_patterns.specs.Derivatives.{after, is_barren}
 use Rattle.text_patterns.specs.Machines.{Reads}
 use Rattle.text_patterns.specs.Tables.{rest_of, machine}
 use Rattle.text_patterns.proofs.Derivatives.{nullable-gives, nullable-takes, after-gives, after-takes}
 use Rattle.text_patterns.proofs.Barren.{barren-none, barren-some}
-use Rattle.text_patterns.proofs.Engine.{reads_start, reads_step, stops_here, reads_whole, reads_whole_alone, reads_begins}
+use Rattle.text_patterns.proofs.Engine.{reads_start, reads_step, stops_here, reads_whole, reads_whole_alone}
 use Rattle.time_primitive.specs.Forms.{spelling, forms_of, has_form, begins, longest, front, form_or, form_in}
 use Rattle.time_primitive.specs.Machine.{class_at, next, accepts, same_form, leads_to, is_wanted, is_taken}
 use Rattle.time_primitive.specs.declared.form.Form.{Form}
@@ -19,7 +19,7 @@ use Rattle.time_primitive.specs.declared.form.Datatype.{Datatype}
 use Rattle.time_primitive.specs.declared.form.Datatype.TheVariants.{Typed, Text}
 use Rattle.time_primitive.specs.declared.machine.State.{State}
 use Rattle.time_primitive.specs.declared.machine.State.TheVariants as state
-use Rattle.time_primitive.proofs.Table.{table, is_table, is_machine, leading}
+use Rattle.time_primitive.proofs.Table.{table, is_machine, leading}
 
 same_alike : (f g : Form) → same_form f g ≡ true → f ≡ g
 same_alike GYear GYear h = refl

@@ -1,10 +1,9 @@
 -- The table of the machine, and its tests, each of which is computed.
 use Rattle.std.proofs.Common.{ℕ, List, [], ◌∷◌, ◌++◌, ◌≡◌, ◌<◌, ◌≤◌, refl, sym, ap, ◌∙◌, arith, inl, inr, subst}
-use Rattle.std.specs.Prelude.{Bool, true, false, cond, not, ◌&&◌, ◌||◌, nat_le, ◌==◌, Option, None, Some}
-use Rattle.std.proofs.lemmas.Bool.{and_parts, cases_lt, eqb-true, false≢true}
+use Rattle.std.specs.Prelude.{Bool, true, false, cond, not, ◌&&◌, ◌==◌}
+use Rattle.std.proofs.lemmas.Bool.{and_parts, cases_lt}
 use Rattle.std.proofs.lemmas.Bool.Decides.{nat_tests}
 use mathlib.Core.Bool.{beq}
-use Rattle.text_patterns.specs.Patterns.{Pattern}
 use Rattle.text_patterns.specs.Derivatives.{is_barren, SameIn}
 use Rattle.text_patterns.specs.Machines.{IsMachine}
 use Rattle.text_patterns.specs.Tables.{Table, IsTable, rest_of, machine, fits, ends_at, shuts_at, goes_at}

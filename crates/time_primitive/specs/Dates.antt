@@ -1,5 +1,5 @@
 -- The instant of a date, or its fault.
-use Rattle.std.specs.Prelude.{ℕ, ℤ, pos, neg_ℤ, ◌+ℤ◌, ◌-ℤ◌, ◌*ℤ◌, ◌+◌, ◌*◌, ◌==◌, ◌&&◌, ◌||◌, Bool, true, false, cond, not, nat_le, Option, Some, None, Result, Ok, Err, List}
+use Rattle.std.specs.Prelude.{ℕ, ℤ, pos, neg_ℤ, ◌+ℤ◌, ◌-ℤ◌, ◌*ℤ◌, ◌+◌, ◌*◌, ◌==◌, ◌&&◌, ◌||◌, Bool, cond, not, nat_le, Option, Some, None, Result, Ok, Err, List}
 use Rattle.std.specs.Option.{option_or}
 use Rattle.jiff_core.specs.Calendar.{days_from_civil, days_in_month}
 use Rattle.time_primitive.specs.declared.Side.{Side}
@@ -8,7 +8,7 @@ use Rattle.time_primitive.specs.declared.DateKind.{DateKind}
 use Rattle.time_primitive.specs.declared.DateKind.TheVariants as kind
 use Rattle.time_primitive.specs.declared.DateFault.{DateFault}
 use Rattle.time_primitive.specs.declared.form.Form.{Form}
-use Rattle.time_primitive.specs.declared.form.Form.TheVariants.{GYear, GYearMonth, Date, DateTime}
+use Rattle.time_primitive.specs.declared.form.Form.TheVariants.{GYear, GYearMonth, DateTime}
 use Rattle.time_primitive.specs.declared.form.Datatype.{Datatype}
 use Rattle.time_primitive.specs.declared.parts.Parts.{Parts}
 use Rattle.time_primitive.specs.declared.parts.Offset.{Offset}

@@ -1,5 +1,5 @@
 -- The forms of dates, the datatypes that ask for them, and what a text is among them.
-use Rattle.std.specs.Prelude.{ℕ, zero, suc, ◌≡◌, Bool, true, false, cond, not, Option, Some, None, Result, Ok, Err, List, [], ◌∷◌, ◌++◌, length, take, codes, bytes_eq}
+use Rattle.std.specs.Prelude.{ℕ, zero, suc, Bool, cond, not, Option, Some, None, Result, Ok, Err, List, [], ◌∷◌, length, take, codes, bytes_eq}
 use Rattle.std.specs.List.{find, list_any}
 use Rattle.text_patterns.specs.Patterns.{Pattern, ◌then◌, ◌or◌, char, optional, some_of}
 use Rattle.text_patterns.specs.Patterns.Pattern.{One, Many}

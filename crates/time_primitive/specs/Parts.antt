@@ -1,5 +1,5 @@
 -- The parts of a text that has a form, by their places.
-use Rattle.std.specs.Prelude.{◌<◌, ◌≤◌, ◌≤ℤ◌, IfSome, ℕ, zero, suc, ℤ, pos, neg_ℤ, ◌+◌, ◌-◌, ◌*◌, ◌==◌, ◌&&◌, ◌||◌, Bool, true, false, cond, not, nat_le, Option, Some, None, List, [], ◌∷◌, length, take, drop, slice_index, position}
+use Rattle.std.specs.Prelude.{◌<◌, ◌≤◌, ◌≤ℤ◌, IfSome, ℕ, zero, suc, ℤ, pos, neg_ℤ, ◌+◌, ◌-◌, ◌*◌, ◌==◌, ◌&&◌, ◌||◌, Bool, true, false, cond, not, nat_le, Option, Some, None, List, [], length, take, drop, slice_index, position}
 use Rattle.std.specs.List.{position_or_len}
 use Rattle.time_primitive.specs.declared.form.Form.{Form}
 use Rattle.time_primitive.specs.declared.form.Form.TheVariants.{GYear, GYearMonth, Date, DateTime}

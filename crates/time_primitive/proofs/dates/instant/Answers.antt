@@ -2,7 +2,6 @@ use Rattle.std.proofs.Common.{◌≡◌, arith, ap, ap₂, ◌∙◌, FitsSigned
 use mir.Syntax.{w16, w128}
 use Rattle.std.specs.Prelude.{ℤ, pos, ◌+ℤ◌, ◌-ℤ◌, ◌*ℤ◌}
 use Rattle.std.proofs.lemmas.Int.{ints, to_z-of_z}
-use Rattle.time_primitive.specs.Dates.{day_of, time_of_day}
 use Rattle.time_primitive.proofs.dates.instant.Goals as goal
 
 together : (d t o e u p : ℤ) → d ≡ e → t ≡ u → o ≡ p → (d *ℤ pos 86_400_000_000_000 +ℤ t) -ℤ o ≡ (e *ℤ pos 86_400_000_000_000 +ℤ u) -ℤ p

@@ -1,7 +1,5 @@
-use Rattle.std.proofs.Common.{◌≡◌, ◌<◌, ◌+◌, ℕ, length, get_or, arith, refl, sym, ap, ◌∙◌, subst, true, false}
-use Rattle.std.specs.Prelude.{Option, None, Some}
-use Rattle.time_primitive.specs.declared.machine.Class.{Class}
-use Rattle.time_primitive.specs.Machine.{class_at, next, accepts, is_wanted, is_taken}
+use Rattle.std.proofs.Common.{◌≡◌, ℕ, length, arith, sym, ap, ◌∙◌, subst}
+use Rattle.time_primitive.specs.Machine.{next}
 use Rattle.time_primitive.proofs.Reading.{Follows, start_wanted, follows_start, follows_step, refused_stuck, refused_unwanted, read_whole, ended_open, ended_other}
 use Rattle.time_primitive.proofs.machine.read_form.Goals as goal
 

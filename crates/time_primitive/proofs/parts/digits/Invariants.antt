@@ -1,4 +1,4 @@
-use Rattle.std.proofs.Common.{◌≡◌, ◌<◌, ℕ, get_or, Bool, false}
+use Rattle.std.proofs.Common.{◌≡◌, ◌<◌, ℕ, get_or, false}
 use Rattle.std.specs.Prelude.{not}
 use Rattle.time_primitive.specs.Parts.{is_digit_byte}
 use Rattle.time_primitive.proofs.parts.digits.Given as goal

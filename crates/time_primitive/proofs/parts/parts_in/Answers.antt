@@ -1,4 +1,4 @@
-use Rattle.std.proofs.Common.{◌≡◌, ◌≤◌, ◌+◌, ◌-◌, length, sym, subst}
+use Rattle.std.proofs.Common.{◌≤◌, ◌+◌, ◌-◌, length, sym, subst}
 use Rattle.time_primitive.specs.declared.parts.Parts.{Parts}
 use Rattle.std.specs.Prelude.{IfSome, pos, neg_ℤ, ◌≤ℤ◌}
 use Rattle.time_primitive.proofs.Digits.{fraction_length, short_year}

@@ -1,4 +1,4 @@
-use Rattle.std.proofs.Common.{◌≡◌, drop, sym, subst}
+use Rattle.std.proofs.Common.{drop, sym, subst}
 use Rattle.time_primitive.specs.Parts.{AreDigits, sign_length}
 use Rattle.time_primitive.proofs.Digits.{front_digits}
 use Rattle.time_primitive.proofs.parts.year.Goals as goal
