@@ -1,8 +1,6 @@
 -- What the bytes of a plain file say.
-use Rattle.std.specs.Prelude.{◌≡◌, ℕ, ◌+◌, Bool, true, false, nat_eq, nat_lt, List, [], ◌∷◌, ◌++◌, length, Option, Some, None, if◌then◌else◌, Result, Ok, Err, fold}
-use Rattle.rdf_terms.specs.declared.terms.Term.{Term}
-use Rattle.rdf_terms.specs.declared.terms.Term.TheVariants.{Iri, Blank, Lit}
-use Rattle.rdf_terms.specs.declared.terms.Triple.{Triple}
+use Rattle.std.specs.Prelude.{ℕ, ◌+◌, nat_eq, nat_lt, List, [], ◌∷◌, length, Option, Some, None, if◌then◌else◌, Result, Ok, Err, fold}
+use Rattle.rdf_terms.specs.declared.terms.Term.TheVariants.{Iri}
 use Rattle.rdf_terms.specs.declared.triples.Records.{Records}
 use Rattle.rdf_terms.specs.Naming.{iri_number, with_iri}
 use Rattle.rdf_terms.specs.Terms.{with_triple}

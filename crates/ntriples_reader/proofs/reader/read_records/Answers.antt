@@ -1,6 +1,6 @@
-use Rattle.std.proofs.Common.{rules, ◌≡◌, ◌+◌, ◌≤◌, ◌<◌, length, take, drop, arith, sym, ◌∙◌, refl, Option, Some, None, length-take, length-drop}
-use Rattle.ntriples_reader.specs.Reading.{records_of, no_records, with_lines, placed_lines, lines_of}
-use Rattle.ntriples_reader.proofs.Lines.{step, stop, full, done, next, is_some, is_none, moved, taken_le}
+use Rattle.std.proofs.Common.{arith, sym, ◌∙◌, refl}
+use Rattle.ntriples_reader.specs.Reading.{records_of}
+use Rattle.ntriples_reader.proofs.Lines.{stop, full, done, next, is_some, is_none, moved, taken_le}
 use Rattle.ntriples_reader.proofs.reader.read_records.Goals as goal
 
 pub lines-init : goal.lines-init
