@@ -14,7 +14,7 @@ pub loop-n-init : goal.loop-n-init
 loop-n-init g c =
     let first = take_none c.args.set.now c.args.edges.now c.requires.edges c.args.source c.args.nodes.now.items c.args.node_of.now c.args.head
     c.at-walk.result c.extents-extents.result c.point_at.result c.index-from.result.now c.requires.head c.index-from.ensures
-    c.extents-extents.ensures c.point_at.ensures.number c.at-walk.ensures c.requires.searching in
+    c.extents-extents.ensures c.point_at.ensures.number c.at-walk.ensures.first c.requires.searching in
     (first.0, omega (arith, first.1), omega arith)
 
 pub loop-n-preserved : goal.loop-n-preserved
