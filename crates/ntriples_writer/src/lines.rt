@@ -1,0 +1,156 @@
+// The line of a triple.
+ghost use Rattle.std.specs.Prelude.{◌≡◌, ◌++◌, ◌≤◌, ◌<◌, ℕ, true, length, drop, take, IfOk, OnOk};
+ghost use Rattle.std.specs.Str.{IsUtf8};
+ghost use Rattle.rdf_terms.specs.Fitting.{is_among};
+ghost use Rattle.crm_outside.specs.Printing.{Prints};
+ghost use Rattle.ntriples_writer.specs.Lines as spec;
+ghost use Rattle.ntriples_writer.specs.Lines.{AreNamed, canonical_line};
+
+use crm_outside::{PrintFault, Sink, Text, print_text};
+use itoa::Buffer;
+use rdf_terms::{Literal, Names, Term, Triple};
+use std::alloc::{AllocError, Global};
+
+/// Why a line was not written whole: `Failed` where a call on the sink failed, `Memory` where memory was wanting.
+pub type WriteRefusal = PrintFault;
+
+fn escape_letter(byte: u8) -> Option<u8>
+    ensures { result ≡ spec.escape_letter byte }
+{
+    match byte {
+        b'"' | b'\\' => Some(byte),
+        b'\n' => Some(b'n'),
+        b'\r' => Some(b'r'),
+        _ => None,
+    }
+}
+
+// The text with its escapes; what needs none is copied in runs.
+fn append_escaped(text: &[u8], out: &mut Vec<u8>) -> Result<(), AllocError>
+    ensures { OnOk result (out.new.items ≡ out.old.items ++ spec.escaped text.now) }
+{
+    let mut start = 0;
+    for (i, byte) in text.iter().enumerate() {
+        if let Some(letter) = escape_letter(*byte) {
+            out.extend_from_slice(&text[start..i])?;
+            out.push(b'\\')?;
+            out.push(letter)?;
+            start = i + 1;
+        }
+    }
+    out.extend_from_slice(&text[start..])
+}
+
+fn append_iri(iri: &str, out: &mut Vec<u8>) -> Result<(), AllocError>
+    ensures appended { OnOk result (out.new.items ≡ out.old.items ++ spec.iri_text iri.now) }
+    ensures utf8 { OnOk result (IsUtf8 (spec.iri_text iri.now)) }
+{
+    out.push(b'<')?;
+    out.extend_from_slice(iri.as_bytes())?;
+    out.extend_from_slice(b">")
+}
+
+#[tactic(auto, unfolding(crate::specs::Lines::is_xsd_string))]
+fn is_xsd_string(datatype: &str) -> bool
+    ensures { result ≡ spec.is_xsd_string datatype.now }
+{
+    datatype == "http://www.w3.org/2001/XMLSchema#string"
+}
+
+fn append_datatype(datatype: &str, out: &mut Vec<u8>) -> Result<(), AllocError>
+    ensures appended { OnOk result (out.new.items ≡ out.old.items ++ spec.datatype_text datatype.now) }
+    ensures utf8 { OnOk result (IsUtf8 (spec.datatype_text datatype.now)) }
+{
+    if is_xsd_string(datatype) {
+        return Ok(());
+    }
+    out.extend_from_slice(b"^^")?;
+    append_iri(datatype, out)
+}
+
+// The tag, or the datatype where there is none.
+fn append_ending(literal: &Literal, out: &mut Vec<u8>) -> Result<(), AllocError>
+    ensures appended { OnOk result (out.new.items ≡ out.old.items ++ spec.ending_text literal.now) }
+    ensures utf8 { OnOk result (IsUtf8 (spec.ending_text literal.now)) }
+{
+    let tag = literal.tag.as_str();
+    if tag.is_empty() {
+        return append_datatype(literal.datatype.as_str(), out);
+    }
+    out.push(b'@')?;
+    out.extend_from_slice(tag.as_bytes())
+}
+
+fn append_literal(literal: &Literal, out: &mut Vec<u8>) -> Result<(), AllocError>
+    ensures appended { OnOk result (out.new.items ≡ out.old.items ++ spec.literal_text literal.now) }
+    ensures utf8 { OnOk result (IsUtf8 (spec.literal_text literal.now)) }
+{
+    out.push(b'"')?;
+    append_escaped(literal.lexical.as_str().as_bytes(), out)?;
+    out.push(b'"')?;
+    append_ending(literal, out)
+}
+
+fn append_term(names: &Names, term: Term, out: &mut Vec<u8>) -> Result<(), AllocError>
+    requires { is_among names.now term ≡ true }
+    ensures appended { OnOk result (out.new.items ≡ out.old.items ++ spec.term_text names.now term) }
+    ensures utf8 { OnOk result (IsUtf8 (spec.term_text names.now term)) }
+{
+    match term {
+        Term::Iri(n) => match names.get_iri(n) {
+            Some(iri) => append_iri(iri, out),
+            None => unreachable!(),
+        },
+        Term::Blank(n) => {
+            out.extend_from_slice(b"_:b")?;
+            out.extend_from_slice(Buffer::new().format(n).as_bytes())
+        }
+        Term::Lit(n) => match names.get_literal(n) {
+            Some(literal) => append_literal(literal, out),
+            None => unreachable!(),
+        },
+    }
+}
+
+#[tactic(auto, unfolding(crate::specs::Lines::canonical_line))]
+fn line_of(alloc: Global, names: &Names, t: Triple) -> Result<Vec<u8>, AllocError>
+    requires { AreNamed names.now t }
+    ensures line { IfOk result (λ line. line.items ≡ canonical_line names.now t) }
+    ensures utf8 { OnOk result (IsUtf8 (canonical_line names.now t)) }
+{
+    let mut line = Vec::new(alloc);
+    append_term(names, t.s, &mut line)?;
+    line.push(b' ')?;
+    append_term(names, t.p, &mut line)?;
+    line.push(b' ')?;
+    append_term(names, t.o, &mut line)?;
+    line.extend_from_slice(b" .\n")?;
+    Ok(line)
+}
+
+/// Appends the canonical line of a triple, with its line feed. Its IRIs and literals are among the names.
+///
+/// At an error a front of the line is appended; `Failed` comes only where a call on the sink failed.
+pub fn write_triple<W: Sink>(
+    alloc: Global,
+    names: &Names,
+    t: Triple,
+    out: &mut W,
+) -> Result<(), WriteRefusal>
+    requires { AreNamed names.now t }
+    ensures { Prints W.written W.faults W.sure out.old out.new (canonical_line names.now t) result }
+{
+    let Ok(line) = line_of(alloc, names, t) else {
+        return Err(PrintFault::Memory);
+    };
+    print_text(out, line.as_slice())
+}
+
+/// The canonical line of a triple, with its line feed. Its IRIs and literals are among the names.
+pub fn text_of(alloc: Global, names: &Names, t: Triple) -> Result<Text, AllocError>
+    requires { AreNamed names.now t }
+    ensures { IfOk result (λ text. text ≡ canonical_line names.now t) }
+{
+    let line = line_of(alloc, names, t)?;
+    Text::from_str(alloc, str::from_utf8(line.as_slice()).unwrap())
+}
