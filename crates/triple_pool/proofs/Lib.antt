@@ -1,6 +1,7 @@
 pub mod Along
 pub mod Building
 pub mod Chaining
+pub mod Fitted
 pub mod Listing
 pub mod Nearest
 pub mod Pairing

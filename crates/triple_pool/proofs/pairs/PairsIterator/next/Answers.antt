@@ -1,4 +1,4 @@
-use Rattle.std.proofs.Common.{◌≡◌, length, arith, ap, sym, ◌∙◌}
+use Rattle.std.proofs.Common.{length, arith, ap, sym, ◌∙◌}
 use Rattle.triple_pool.proofs.Pairing.{paired, paired_end}
 use Rattle.triple_pool.proofs.pairs.PairsIterator.next.Goals as goal
 

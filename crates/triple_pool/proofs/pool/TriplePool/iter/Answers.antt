@@ -1,4 +1,4 @@
-use Rattle.std.proofs.Common.{◌≡◌, ap}
+use Rattle.std.proofs.Common.{ap}
 use Rattle.triple_pool.specs.Pool.{Numbered}
 use Rattle.triple_pool.proofs.Listing.{numbered_pairs}
 use Rattle.triple_pool.proofs.pool.TriplePool.iter.Goals as goal
