@@ -22,9 +22,13 @@ stands_left ps qs pair s = (s.0, (omega (arith, length-append ps qs, s.1.0), get
 
 stands_right : (ps qs : List CellPair) (pair : CellPair) → Stands qs pair → Stands (ps ++ qs) pair
 stands_right ps qs pair s =
-    let back : length ps + s.0 - length ps ≡ s.0 = omega arith in
-    (length ps + s.0, (omega (arith, length-append ps qs, s.1.0),
-    get_or-append_right ps qs (length ps) (length ps + s.0) no_pair refl (omega arith) ∙ ap (λ k. pair_at qs k) back ∙ s.1.1))
+    let back : length ps + s.0 - length ps ≡ s.0 = omega arith in (
+      length ps + s.0,
+      (
+        omega (arith, length-append ps qs, s.1.0),
+        get_or-append_right ps qs (length ps) (length ps + s.0) no_pair refl (omega arith) ∙ ap (λ k. pair_at qs k) back ∙ s.1.1,
+      ),
+    )
 
 in_row : (i n : ℕ) (test : ℕ → Bool) (j : ℕ) → j < n → test j ≡ true → Stands (pairs_with i test n) (record { first = i; second = j })
 in_row i zero test j h e = absurd (omega arith)

@@ -8,6 +8,8 @@ pub mod laws;
 mod levels;
 mod matrix;
 mod rows;
+#[cfg(test)]
+mod tests;
 mod walking;
 
 pub use cells::{Cell, CellList, CellPair, PairList};
