@@ -2,6 +2,8 @@
 #![tactic(auto)]
 
 mod routes;
+#[cfg(test)]
+mod tests;
 mod tree;
 
 pub use routes::{Chain, Routes, cycle};
