@@ -20,6 +20,9 @@ use order_laws::{Point, Reach};
 use std::alloc::{AllocError, Global};
 use std::marker::Model;
 
+// The table keeps one byte a pair of points.
+const _: () = prove!(size_of::<Reach>() == 1);
+
 fn reach_of(marks: &[bool], point: usize) -> Reach
     requires { 2 * point + 1 < length marks.now }
     ensures { result ≡ reach_at marks.now point }
@@ -51,7 +54,7 @@ fn close(alloc: Global, points: u32, edges: &Links) -> Result<Vec<Reach>, AllocE
     let mut marks_kept = vec![in alloc; false; 2 * points as usize]?;
     let marks = marks_kept.as_mut_slice();
     let mut queue = Vec::with_capacity(alloc, 2 * points as usize)?;
-    let mut table = Vec::new(alloc);
+    let mut table = Vec::with_capacity(alloc, points as usize * points as usize)?;
     for source in 0..points {
         search(&edges.first, &edges.links, source, marks, &mut queue)?;
         push_row(marks, points as usize, &mut table)?;
