@@ -1,0 +1,4 @@
+pub mod Meaning
+pub mod Faults
+pub mod Relations
+pub mod Index
