@@ -2,8 +2,12 @@
 #![tactic(auto)]
 
 mod classes;
+mod cutter;
+mod front;
 mod kinds;
 mod laws;
 mod states;
 
+pub use cutter::Place;
+pub use front::Front;
 pub use kinds::Kind;
