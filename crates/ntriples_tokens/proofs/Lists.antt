@@ -1,5 +1,5 @@
 -- All of an enumeration, one by one.
-use Rattle.std.proofs.Common.{ℕ, List, [], ◌∷◌, ◌≡◌}
+use Rattle.std.proofs.Common.{List, [], ◌∷◌, ◌≡◌}
 use Rattle.std.proofs.lemmas.Bool.{and_parts}
 use Rattle.std.specs.Prelude.{Bool, true, ◌&&◌}
 use Rattle.text_patterns.proofs.Spans.{all, all_parts}

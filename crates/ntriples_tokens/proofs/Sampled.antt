@@ -1,5 +1,5 @@
 -- Each character behaves as the sample of its class.
-use Rattle.std.proofs.Common.{ℕ, List, [], ◌∷◌, ◌≡◌, ◌<◌, ◌≤◌, ◌+◌, refl, ap₂, sym, ◌∙◌, arith, inl, inr, subst}
+use Rattle.std.proofs.Common.{ℕ, List, [], ◌∷◌, ◌≡◌, ◌<◌, ◌≤◌, refl, ap₂, sym, ◌∙◌, arith, inl, inr, subst}
 use Rattle.std.proofs.lemmas.Bool.{and_parts, cond-false, leb-true, le-ltb, cases_lt}
 use Rattle.std.specs.Prelude.{Bool, true, cond, ◌&&◌, nat_le, nat_lt, slice_index}
 use Rattle.text_patterns.specs.Patterns.{within}

@@ -1,8 +1,8 @@
 -- The tests of the table pass, so it is a machine.
-use Rattle.std.proofs.Common.{ℕ, List, ◌≡◌, refl, ap, sym, ◌∙◌}
+use Rattle.std.proofs.Common.{ℕ, ◌≡◌, refl, ap, sym, ◌∙◌}
 use Rattle.std.specs.Prelude.{Bool, true, cond, ◌==◌}
 use Rattle.text_patterns.specs.Machines.{IsMachine}
-use Rattle.text_patterns.specs.Tables.{Table, IsTable, fits, ends_at, shuts_at, goes_at}
+use Rattle.text_patterns.specs.Tables.{IsTable, fits, ends_at, shuts_at, goes_at}
 use Rattle.text_patterns.proofs.Spans.{all}
 use Rattle.text_patterns.proofs.Steps.{table_machine}
 use Rattle.ntriples_tokens.specs.Machine.{index, table, ntriples}
@@ -10,12 +10,7 @@ use Rattle.ntriples_tokens.proofs.Lists.{classes, kinds, escapes, plain_states, 
 use Rattle.ntriples_tokens.proofs.Sampled.{sampled}
 use Rattle.ntriples_tokens.specs.declared.kinds.Kind.{Kind}
 use Rattle.ntriples_tokens.specs.declared.kinds.Kind.TheVariants as kind
-use Rattle.ntriples_tokens.specs.declared.classes.Class.{Class}
-use Rattle.ntriples_tokens.specs.declared.classes.Class.TheVariants as class
-use Rattle.ntriples_tokens.specs.declared.states.Escape.{Escape}
-use Rattle.ntriples_tokens.specs.declared.states.Escape.TheVariants as escape
 use Rattle.ntriples_tokens.specs.declared.states.State.{State}
-use Rattle.ntriples_tokens.specs.declared.states.State.TheVariants as state
 
 abbrev fits_at : State → Bool
 fits_at q = all (λ c. all (fits table q c) kinds) classes

@@ -1,5 +1,5 @@
 -- The tokens of a text with their characters and places, and how the text stops.
-use Rattle.std.specs.Prelude.{ℕ, zero, suc, ◌+◌, ◌-◌, ◌≡◌, ◌≤◌, ◌==◌, ◌||◌, List, [], ◌∷◌, ◌++◌, Bool, true, false, cond, take, drop, length, ⊤}
+use Rattle.std.specs.Prelude.{ℕ, zero, suc, ◌+◌, ◌-◌, ◌≡◌, ◌==◌, ◌||◌, List, [], ◌∷◌, ◌++◌, cond, take, ⊤}
 use Rattle.std.specs.Char.{len_utf8}
 use Rattle.ntriples_tokens.specs.declared.kinds.Kind.{Kind}
 use Rattle.ntriples_tokens.specs.declared.front.Front.{Front}
@@ -42,6 +42,11 @@ items p (suc n) (c ∷ chars) at = items p n chars (at + len_utf8 c)
 items p zero (c ∷ chars) at = by_gap (gap_at p c) (λ q. items q 0 chars (at + len_utf8 c))
     (by_front (front_of (c ∷ chars)) (c ∷ chars) at (λ n. items Between n chars (at + len_utf8 c)))
 
+-- the items behind a token of n characters
+abbrev pub behind : ℕ → List ℕ → ℕ → Items
+behind n [] at = Stop at
+behind n (c ∷ chars) at = items Between (n - 1) chars (at + len_utf8 c)
+
 -- what is kept: the characters from the open token on, with the byte offset of the first
 pub record Kept : Type 0 where
   pub place : Place
@@ -60,3 +65,7 @@ TokenFirst p (c ∷ chars) = gap_at p c ≡ gap.Token
 abbrev pub front_items : Front → List ℕ → ℕ → Items
 front_items f [] at = Stop at
 front_items f (c ∷ chars) at = by_front f (c ∷ chars) at (λ n. items Between n chars (at + len_utf8 c))
+
+-- the items behind a token of n characters at the front
+abbrev pub items_behind : ℕ → Kept → List ℕ → Items
+items_behind n k more = behind n (k.chars ++ more) k.at

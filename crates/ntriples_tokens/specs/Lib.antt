@@ -5,3 +5,4 @@ pub mod Widths
 pub mod Fronts
 pub mod Items
 pub mod Cutting
+pub mod Texts

@@ -1,5 +1,5 @@
 -- The terminals of N-Triples, as the standard spells them.
-use Rattle.std.specs.Prelude.{ℕ, List, [], ◌∷◌}
+use Rattle.std.specs.Prelude.{[], ◌∷◌}
 use Rattle.text_patterns.specs.Patterns.{Pattern, ◌then◌, ◌or◌, char, optional, some_of}
 use Rattle.text_patterns.specs.Patterns.Pattern.{One, Many}
 use Rattle.ntriples_tokens.specs.declared.kinds.Kind.{Kind}

@@ -8,6 +8,6 @@ mod kinds;
 mod laws;
 mod states;
 
-pub use cutter::Place;
+pub use cutter::{Cutter, Place};
 pub use front::Front;
 pub use kinds::Kind;

@@ -1,4 +1,4 @@
-use Rattle.std.proofs.Common.{◌≡◌, ◌+◌, ◌≤◌, ◌++◌, List, ℕ, drop, take}
+use Rattle.std.proofs.Common.{◌≡◌, ◌+◌, ◌≤◌, ◌++◌, List, ℕ, drop}
 use Rattle.ntriples_tokens.specs.Fronts as spec
 use Rattle.ntriples_tokens.specs.Widths.{width}
 use Rattle.ntriples_tokens.proofs.front.read_on.Given as goal
