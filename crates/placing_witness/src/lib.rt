@@ -11,5 +11,7 @@ mod floors;
 mod placings;
 mod ranks;
 mod rows;
+#[cfg(test)]
+mod tests;
 
 pub use placings::{Placings, delaying, plain};
