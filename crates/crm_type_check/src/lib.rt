@@ -10,6 +10,8 @@ mod meaning;
 mod own;
 mod pushing;
 mod relation;
+#[cfg(test)]
+mod tests;
 
 use crate::own::own_faults;
 use crate::pushing::push_faults;
