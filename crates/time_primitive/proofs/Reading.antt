@@ -39,14 +39,14 @@ same_alike DateTime GYearMonth h = absurd (false≢true h)
 same_alike DateTime Date h = absurd (false≢true h)
 same_alike DateTime DateTime h = refl
 
-same_self : (f : Form) → same_form f f ≡ true
+pub same_self : (f : Form) → same_form f f ≡ true
 same_self GYear = refl
 same_self GYearMonth = refl
 same_self Date = refl
 same_self DateTime = refl
 
 -- a test over the forms of a datatype
-any_of : (d : Datatype) (f : Form → Bool) (k : Form) → is_taken d k ≡ true → f k ≡ true → list_any f (forms_of d) ≡ true
+pub any_of : (d : Datatype) (f : Form → Bool) (k : Form) → is_taken d k ≡ true → f k ≡ true → list_any f (forms_of d) ≡ true
 any_of (Typed g) f k t h = or_left (f g) false (ap f (same_alike g k t) ∙ h)
 any_of Text f GYear t h = or_left (f GYear) (f GYearMonth || (f Date || (f DateTime || false))) h
 any_of Text f GYearMonth t h = or_right (f GYear) (f GYearMonth || (f Date || (f DateTime || false))) (or_left (f GYearMonth) (f Date || (f DateTime || false)) h)
@@ -76,7 +76,7 @@ not_found_of (Typed g) f none = rw (none g (same_self g)) refl
 not_found_of Text f none = rw (none GYear refl, none GYearMonth refl, none Date refl, none DateTime refl) refl
 
 -- a text that completes the pattern shows that it is not barren
-fertile : (p : Pattern) (t : List ℕ) → Matches p t → is_barren p ≡ false
+pub fertile : (p : Pattern) (t : List ℕ) → Matches p t → is_barren p ≡ false
 fertile p t m =
     elim (cases_Bool (is_barren p)) [
       | inl barren ↦ absurd (barren-none p t barren m)
@@ -176,7 +176,7 @@ unwanted (Typed g) text i q f w =
     (λ k t. subst (λ (x : Form). not (is_barren (after (spelling x) (take i text))) ≡ false) (same_alike g k t) (leads_same text i q f g ∙ w))
 unwanted Text text i q f w = absurd (true≢false w)
 
-stuck : (d : Datatype) (text : List ℕ) (i : ℕ) (q : State) → i < length text → get_or text i 0 < 0x110000 → Follows text i q →
+pub stuck : (d : Datatype) (text : List ℕ) (i : ℕ) (q : State) → i < length text → get_or text i 0 < 0x110000 → Follows text i q →
     next q (class_at (get_or text i 0)) ≡ None → begins (forms_of d) (take (i + 1) text) ≡ false
 unfolding Follows
 stuck d text i q l c f n =
@@ -215,11 +215,11 @@ refused_unwanted d text i q r l c f w n u =
     refused_at d text i q l f w (unwanted d text (i + 1) r (follows_step text i q r l c f n) u)
 
 -- at the end of the text
-append_nil : (s : List ℕ) → s ++ [] ≡ s
+pub append_nil : (s : List ℕ) → s ++ [] ≡ s
 append_nil [] = refl
 append_nil (c ∷ s) = ap (λ x. c ∷ x) (append_nil s)
 
-accepted : (text : List ℕ) (q : State) → Follows text (length text) q → (k : Form) → has_form text k ≡ true → accepts q ≡ Some k
+pub accepted : (text : List ℕ) (q : State) → Follows text (length text) q → (k : Form) → has_form text k ≡ true → accepts q ≡ Some k
 unfolding Follows
 accepted text q f k h = reads_whole_alone (machine table) is_machine text q f.0 f.1 k
     (subst (λ x. Matches (spelling k) x) (append_nil text) (after-gives (spelling k) text [] (nullable-gives (after (spelling k) text) h)))

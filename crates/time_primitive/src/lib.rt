@@ -9,6 +9,7 @@ ghost use Rattle.jiff_core.specs.Calendar.{IsDate};
 
 mod dates;
 mod form;
+pub mod laws;
 mod machine;
 mod parts;
 #[cfg(test)]
