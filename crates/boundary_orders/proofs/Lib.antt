@@ -2,3 +2,4 @@ pub mod Growing
 pub mod Standing
 pub mod Numbering
 pub mod Dating
+pub mod Finding

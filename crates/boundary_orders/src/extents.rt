@@ -1,13 +1,17 @@
 // The extents by number.
-ghost use Rattle.std.specs.Prelude.{◌≡◌, ◌++◌, [], ◌∷◌, IfOk, OnOk};
+ghost use Rattle.std.specs.Prelude.{◌≡◌, ℕ, List, nat_eq, IfOk, OnOk};
 ghost use Rattle.rdf_terms.specs.contracts.terms.TermPartialEq.TheImpl.{ghosts};
 ghost use Rattle.indexmap.specs.IndexMap.{get};
-ghost use Rattle.boundary_orders.specs.Extents.{rows_by, ends_in};
+ghost use Rattle.indexmap.specs.IndexSet.{contains};
+ghost use Rattle.crm_type_check.specs.declared.Fault.{Fault};
+ghost use Rattle.boundary_orders.specs.Statements.{is_faulty, statements_of};
+ghost use Rattle.boundary_orders.specs.Extents.{rows_by, ends_in, extents_of};
 ghost use Rattle.boundary_orders.specs.Numbering.{with_node};
 
-use crate::standings::Marks;
-use indexmap::IndexMap;
-use rdf_terms::{Term, Triple};
+use crate::standings::{Marks, class_standings, end_standings, mark_all};
+use crate::statements::StatementList;
+use indexmap::{IndexMap, IndexSet};
+use rdf_terms::{Names, Term, Triple};
 use std::alloc::{AllocError, Global};
 use triple_pool::TriplePool;
 
@@ -43,5 +47,23 @@ pub fn number_extents(
     for (_, triple) in pool.iter() {
         number_ends(&mut table, marks, triple)?;
     }
+    Ok(table)
+}
+
+/// The extents of all triples of the pool, by its statements and the numbers of the faulty triples.
+pub fn find_extents(
+    alloc: Global,
+    names: &Names,
+    pool: &TriplePool,
+    faulty: &IndexSet<u32>,
+    statements: &StatementList,
+) -> Result<ExtentTable, AllocError>
+    ensures { IfOk result (λ table. (faults : List Fault) → ((n : ℕ) → contains nat_eq faulty.now n ≡ is_faulty faults n) →
+        statements.now ≡ statements_of names.now pool.now.pairs faults → table.entries ≡ extents_of names.now pool.now.pairs faults) }
+{
+    let mut standings = end_standings(alloc, statements)?;
+    class_standings(&mut standings, names, pool, faulty)?;
+    let marks = mark_all(alloc, &standings)?;
+    let table = number_extents(alloc, pool, &marks)?;
     Ok(table)
 }

@@ -3,12 +3,16 @@
 
 mod dates;
 mod extents;
+mod faults;
+mod listing;
 mod orders;
 mod standings;
 mod statements;
 
 pub use dates::{date_in, date_number};
-pub use extents::{ExtentTable, number_extents};
+pub use extents::{ExtentTable, find_extents, number_extents};
+pub use faults::BuildFault;
+pub use listing::list_statement;
 pub use orders::push_orders;
 pub use standings::{Marks, StandingList, class_standings, end_standings, mark_all};
 pub use statements::{

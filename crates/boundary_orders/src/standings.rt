@@ -89,8 +89,8 @@ pub fn class_standings(
     pool: &TriplePool,
     faulty: &IndexSet<u32>,
 ) -> Result<(), AllocError>
-    ensures { (faults : List Fault) → ((n : ℕ) → contains nat_eq faulty.now n ≡ is_faulty faults n) →
-        OnOk result (standings.new ≡ standings.old ++ flat_map (by_type names.now faults) pool.now.pairs) }
+    ensures { OnOk result ((faults : List Fault) → ((n : ℕ) → contains nat_eq faulty.now n ≡ is_faulty faults n) →
+        standings.new ≡ standings.old ++ flat_map (by_type names.now faults) pool.now.pairs) }
 {
     for (number, triple) in pool.iter() {
         push_type(standings, names, faulty, number, triple)?;

@@ -1,0 +1,71 @@
+// The orders of a statement, by the numbers of extents and dates.
+ghost use Rattle.std.specs.Prelude.{◌≡◌, ◌≤◌, ◌++◌, length, IfSome, OnOk, IsOkUnless};
+ghost use Rattle.std.specs.List.Sorted.{IsStrictlySortedBy};
+ghost use Rattle.std.specs.Ordering.{int_cmp};
+ghost use Rattle.boundary_orders.specs.declared.faults.BuildFault.{BuildFault};
+ghost use Rattle.boundary_orders.specs.Orders as spec;
+ghost use Rattle.boundary_orders.specs.Orders.{orders_by};
+
+use crate::dates::{date_in, date_number};
+use crate::extents::ExtentTable;
+use crate::faults::BuildFault;
+use crate::orders::push_orders;
+use crate::statements::{Statement, is_date};
+use order_core::OrderList;
+use rdf_terms::{Names, Term};
+
+#[tactic(auto, using(crate::proofs::Finding::number_found))]
+fn extent_number(extents: &ExtentTable, node: Term) -> Option<u32>
+    requires few { length extents.now.entries ≤ 2048 }
+    ensures { IfSome result (λ k. k ≡ spec.extent_number extents.now.entries node) }
+{
+    match extents.get_index_of(&node) {
+        Some(k) => Some(k as u32),
+        None => None,
+    }
+}
+
+// The number of the extent at the range, or of the date.
+fn range_number(
+    names: &Names,
+    extents: &ExtentTable,
+    dates: &[i128],
+    statement: &Statement,
+) -> Option<u32>
+    requires few { length extents.now.entries ≤ 2048 }
+    requires ascending { IsStrictlySortedBy int_cmp dates.now }
+    requires few_dates { length dates.now ≤ 2048 }
+    ensures { IfSome result (λ k. k ≡ spec.range_number names.now extents.now.entries dates.now statement.now) }
+{
+    if !is_date(statement.code) {
+        return extent_number(extents, statement.range);
+    }
+    match date_in(names, statement) {
+        Some(date) => date_number(dates, &date),
+        None => None,
+    }
+}
+
+/// Appends the orders of a statement, by the tables of extents and of dates.
+pub fn list_statement(
+    list: &mut OrderList,
+    names: &Names,
+    extents: &ExtentTable,
+    dates: &[i128],
+    statement: &(u32, Statement),
+) -> Result<(), BuildFault>
+    requires few { length extents.now.entries ≤ 2048 }
+    requires ascending { IsStrictlySortedBy int_cmp dates.now }
+    requires few_dates { length dates.now ≤ 2048 }
+    ensures ok { OnOk result (list.new ≡ list.old ++ orders_by names.now extents.now.entries dates.now statement.now) }
+    ensures memory { IsOkUnless result BuildFault.Memory }
+{
+    let Some(domain) = extent_number(extents, statement.1.domain) else {
+        return Err(BuildFault::Memory);
+    };
+    let Some(range) = range_number(names, extents, dates, &statement.1) else {
+        return Err(BuildFault::Memory);
+    };
+    push_orders(list, statement.0, statement.1.code, domain, range)?;
+    Ok(())
+}
