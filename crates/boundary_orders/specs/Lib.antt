@@ -1,0 +1,4 @@
+pub mod Statements
+pub mod Extents
+pub mod Orders
+pub mod Numbering
