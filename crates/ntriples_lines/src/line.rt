@@ -115,3 +115,138 @@ fn put_iri(chars: &[char], out: &mut String) -> Result<Option<Code>, AllocError>
     }
     if has_scheme(out.as_str()) { Ok(None) } else { Ok(Some(Code::G5)) }
 }
+
+/// What was read of a line.
+#[derive(Drop)]
+pub struct Line {
+    expect: Expect,
+    subject_sort: Sort,
+    subject: String,
+    predicate: String,
+    object_sort: Sort,
+    object: String,
+    datatype: String,
+    tag: String,
+    at: u64,
+}
+
+impl Model for Line {
+    ghost use Rattle.std.specs.Prelude.{string_bytes};
+    ghost use Rattle.ntriples_lines.specs.Lines.{LineState};
+
+    ghost Value = { LineState };
+
+    ghost view = { λ l. record { expect = l.expect; subject_sort = l.subject_sort; subject = string_bytes l.subject; predicate = string_bytes l.predicate; object_sort = l.object_sort; object = string_bytes l.object; datatype = string_bytes l.datatype; tag = string_bytes l.tag; at = l.at } };
+}
+
+impl Line {
+    /// Nothing of a line.
+    pub fn new(alloc: Global) -> Line
+        ensures { result ≡ spec.no_line }
+    {
+        Line {
+            expect: Expect::Start,
+            subject_sort: Sort::Iri,
+            subject: String::new(alloc),
+            predicate: String::new(alloc),
+            object_sort: Sort::Iri,
+            object: String::new(alloc),
+            datatype: String::new(alloc),
+            tag: String::new(alloc),
+            at: 0,
+        }
+    }
+
+    /// Whether no line is begun, or one is whole.
+    pub fn is_between(&self) -> bool
+        ensures { result ≡ spec.is_between self.now.expect }
+    {
+        self.expect.is_between()
+    }
+
+    // Keeps an IRI, and says why it is refused, if it is.
+    fn keep_iri(&mut self, chars: &[char], at: u64) -> Result<Option<Code>, AllocError>
+        ensures code { IfOk result (λ code. code ≡ spec.iri_code chars.now) }
+        ensures line { OnOk result (self.new ≡ spec.with_iri self.old.expect self.old (values.value_text chars.now) at) }
+    {
+        match self.expect {
+            Expect::Start => {
+                self.subject_sort = Sort::Iri;
+                put_iri(chars, &mut self.subject)
+            }
+            Expect::Subject => put_iri(chars, &mut self.predicate),
+            Expect::Predicate => {
+                self.object_sort = Sort::Iri;
+                self.at = at;
+                put_iri(chars, &mut self.object)
+            }
+            _ => put_iri(chars, &mut self.datatype),
+        }
+    }
+
+    fn keep_blank(&mut self, chars: &[char], at: u64) -> Result<(), AllocError>
+        ensures { OnOk result (self.new ≡ spec.with_blank self.old.expect self.old (values.label_text chars.now) at) }
+    {
+        match self.expect {
+            Expect::Start => {
+                self.subject_sort = Sort::Blank;
+                put_chars(behind(chars, 2), &mut self.subject)
+            }
+            _ => {
+                self.object_sort = Sort::Blank;
+                self.at = at;
+                put_chars(behind(chars, 2), &mut self.object)
+            }
+        }
+    }
+
+    #[tactic(auto, unfolding(crate::specs::Lines::xsd_string))]
+    fn keep_string(&mut self, chars: &[char], at: u64) -> Result<(), AllocError>
+        ensures { OnOk result (self.new ≡ spec.with_token Kind.Str self.old chars.now at) }
+    {
+        self.object_sort = Sort::Literal;
+        self.at = at;
+        self.tag.clear();
+        self.datatype.clear();
+        self.datatype.push_str("http://www.w3.org/2001/XMLSchema#string")?;
+        put_value(inside(chars), &mut self.object)?;
+        Ok(())
+    }
+
+    #[tactic(auto, unfolding(crate::specs::Lines::rdf_lang_string))]
+    fn keep_tag(&mut self, chars: &[char]) -> Result<(), AllocError>
+        ensures { OnOk result (self.new ≡ spec.with_token Kind.AtWord self.old chars.now 0) }
+    {
+        self.datatype.clear();
+        self.datatype.push_str("http://www.w3.org/1999/02/22-rdf-syntax-ns#langString")?;
+        put_lowercase(behind(chars, 1), &mut self.tag)
+    }
+
+    /// Takes a token at a byte offset, or says why it is refused.
+    pub fn take(
+        &mut self,
+        kind: Kind,
+        chars: &[char],
+        at: u64,
+    ) -> Result<Option<Code>, AllocError>
+        ensures code { IfOk result (λ code. code ≡ spec.code_at self.old kind chars.now) }
+        ensures line { OnOk result (spec.code_at self.old kind chars.now ≡ None → self.new ≡ spec.line_after self.old kind chars.now at) }
+    {
+        let Some(expect) = self.expect.next(kind) else {
+            return Ok(Some(Code::G2));
+        };
+        match kind {
+            Kind::IriRef => {
+                if let Some(code) = self.keep_iri(chars, at)? {
+                    return Ok(Some(code));
+                }
+            }
+            Kind::Blank => self.keep_blank(chars, at)?,
+            Kind::Str => self.keep_string(chars, at)?,
+            Kind::AtWord => self.keep_tag(chars)?,
+            _ => {}
+        }
+        self.expect = expect;
+        Ok(None)
+    }
+}
