@@ -249,4 +249,52 @@ impl Line {
         self.expect = expect;
         Ok(None)
     }
+
+    pub(crate) fn subject_sort(&self) -> Sort
+        ensures { result ≡ self.now.subject_sort }
+    {
+        self.subject_sort
+    }
+
+    pub(crate) fn subject(&self) -> &str
+        ensures { result.now ≡ self.now.subject }
+    {
+        self.subject.as_str()
+    }
+
+    pub(crate) fn predicate(&self) -> &str
+        ensures { result.now ≡ self.now.predicate }
+    {
+        self.predicate.as_str()
+    }
+
+    pub(crate) fn object_sort(&self) -> Sort
+        ensures { result ≡ self.now.object_sort }
+    {
+        self.object_sort
+    }
+
+    pub(crate) fn object(&self) -> &str
+        ensures { result.now ≡ self.now.object }
+    {
+        self.object.as_str()
+    }
+
+    pub(crate) fn datatype(&self) -> &str
+        ensures { result.now ≡ self.now.datatype }
+    {
+        self.datatype.as_str()
+    }
+
+    pub(crate) fn tag(&self) -> &str
+        ensures { result.now ≡ self.now.tag }
+    {
+        self.tag.as_str()
+    }
+
+    pub(crate) fn at(&self) -> u64
+        ensures { result ≡ self.now.at }
+    {
+        self.at
+    }
 }

@@ -1,0 +1,85 @@
+// Names, labels and triples.
+ghost use Rattle.std.specs.Prelude.{◌≡◌, IfOk, OnOk};
+ghost use Rattle.ntriples_lines.specs.Storing as spec;
+
+use crate::labels::Labels;
+use crate::line::{Line, Sort};
+use crm_outside::Text;
+use rdf_terms::{Code, Literal, NameFault, Names, Refusal, Term, Triple, TripleFault, Triples};
+use std::alloc::{AllocError, Global};
+
+/// The names, labels and triples of the lines so far.
+#[derive(Drop)]
+pub(crate) struct Store {
+    pub names: Names,
+    pub labels: Labels,
+    pub triples: Triples,
+}
+
+/// The store, and the first triple that passed a limit.
+#[derive(Drop)]
+pub(crate) struct Held {
+    pub store: Store,
+    pub limit: Option<Refusal>,
+}
+
+// The term of an IRI, if there is room.
+fn iri(names: &mut Names, text: &str) -> Result<Option<Term>, AllocError>
+    ensures term { IfOk result (λ t. t ≡ spec.iri_term names.old text.now) }
+    ensures names { OnOk result (names.new ≡ spec.iri_names names.old text.now) }
+{
+    match names.iri(text) {
+        Ok(term) => Ok(Some(term)),
+        Err(NameFault::TooMany) => Ok(None),
+        Err(NameFault::Memory) => Err(AllocError),
+    }
+}
+
+// The term of a literal, if there is room.
+fn literal(
+    alloc: Global,
+    names: &mut Names,
+    text: &str,
+    line: &Line,
+) -> Result<Option<Term>, AllocError>
+    ensures term { IfOk result (λ t. t ≡ spec.literal_term names.old (spec.literal_of text.now line.now)) }
+    ensures names { OnOk result (names.new ≡ spec.literal_names names.old (spec.literal_of text.now line.now)) }
+{
+    if text.len() > 0xFFFF_FFFF {
+        return Err(AllocError);
+    }
+    let lexical = Text::from_str(alloc, text)?;
+    let datatype = Text::from_str(alloc, line.datatype())?;
+    let tag = Text::from_str(alloc, line.tag())?;
+    match names.literal(Literal {
+        lexical,
+        datatype,
+        tag,
+    }) {
+        Ok(term) => Ok(Some(term)),
+        Err(NameFault::TooMany) => Ok(None),
+        Err(NameFault::Memory) => Err(AllocError),
+    }
+}
+
+impl Store {
+    fn node(
+        &mut self,
+        alloc: Global,
+        sort: Sort,
+        text: &str,
+        line: &Line,
+    ) -> Result<Option<Term>, AllocError>
+        ensures term { IfOk result (λ t. t ≡ spec.node_term self.old sort text.now line.now) }
+        ensures store { OnOk result (self.new ≡ spec.node_store self.old sort text.now line.now) }
+    {
+        match sort {
+            Sort::Iri => iri(&mut self.names, text),
+            Sort::Blank => {
+                let n = self.labels.number(text)?;
+                Ok(Some(Term::Blank(n)))
+            }
+            Sort::Literal => literal(alloc, &mut self.names, text, line),
+        }
+    }
+}
