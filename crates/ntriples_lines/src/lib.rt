@@ -3,5 +3,8 @@
 
 mod labels;
 mod line;
+mod lines;
 mod store;
 mod values;
+
+pub use lines::ReadRefusal;

@@ -83,3 +83,56 @@ impl Store {
         }
     }
 }
+
+// Adds the triple of a line: the code of the limit that it passes, if any.
+fn add_line(alloc: Global, store: &mut Store, line: &Line) -> Result<Option<Code>, AllocError>
+    ensures code { IfOk result (λ c. c ≡ (spec.with_line store.old line.now).0) }
+    ensures store { OnOk result (store.new ≡ (spec.with_line store.old line.now).1) }
+{
+    let Some(s) = store.node(alloc, line.subject_sort(), line.subject(), line)? else {
+        return Ok(Some(Code::L5));
+    };
+    let Some(p) = iri(&mut store.names, line.predicate())? else {
+        return Ok(Some(Code::L5));
+    };
+    let Some(o) = store.node(alloc, line.object_sort(), line.object(), line)? else {
+        return Ok(Some(Code::L5));
+    };
+    let at = line.at();
+    match store.triples.add(Triple { s, p, o, at }) {
+        Ok(_) => Ok(None),
+        Err(TripleFault::TooMany) => Ok(Some(Code::L4)),
+        Err(TripleFault::Memory) => Err(AllocError),
+    }
+}
+
+impl Held {
+    pub(crate) fn new(alloc: Global) -> Held
+        ensures { result ≡ spec.nothing }
+    {
+        Held {
+            store: Store {
+                names: Names::new(alloc),
+                labels: Labels::new(alloc),
+                triples: Triples::new(alloc),
+            },
+            limit: None,
+        }
+    }
+
+    /// Adds the triple of a line, unless a limit was passed.
+    pub(crate) fn add(&mut self, alloc: Global, line: &Line) -> Result<(), AllocError>
+        ensures { OnOk result (self.new ≡ spec.held_after self.old line.now) }
+    {
+        if self.limit.is_some() {
+            return Ok(());
+        }
+        if let Some(code) = add_line(alloc, &mut self.store, line)? {
+            self.limit = Some(Refusal {
+                code,
+                at: line.at(),
+            });
+        }
+        Ok(())
+    }
+}
