@@ -15,6 +15,8 @@ use Rattle.ntriples_lines.specs.Storing.{held_after, nothing}
 use Rattle.ntriples_lines.specs.declared.store.Held.{Held}
 use Rattle.ntriples_lines.specs.declared.store.Store.{Store}
 use Rattle.ntriples_lines.specs.declared.lines.LinesReader.{LinesReader}
+use Rattle.ntriples_lines.specs.declared.lines.ReadRefusal.{ReadRefusal}
+use Rattle.ntriples_lines.specs.declared.lines.ReadRefusal.TheVariants.{Refused, Memory}
 
 pub data Answer : Type 0 where
   Refuse : Code → ℕ → Answer
@@ -50,13 +52,17 @@ judge l h (Item k chars at rest) = by_code (code_at l k chars) at (judge (line_a
 abbrev pub text_answer : List ℕ → Answer
 text_answer chars = judge no_line nothing (items Beginning 0 chars 0)
 
--- what a reader keeps
-pub record Reading : Type 0 where
-  pub kept : Kept
-  pub line : LineState
-  pub held : Held
-  pub refusal : Option Refusal
-
 -- the answer of a reader where these characters are still fed
-abbrev pub answer_of : Reading → List ℕ → Answer
-answer_of r more = unless r.refusal (judge r.line r.held (items_of r.kept more))
+abbrev pub answer_of : LinesReader → List ℕ → Answer
+answer_of r more = unless r.refusal (judge r.line r.held (items_of r.cutter more))
+
+abbrev pub token_items : Kind → ℕ → List ℕ → ℕ → Items
+token_items k n chars at = front_items (Token k n) chars at
+
+abbrev pub IsRefusal : ReadRefusal → Answer → Type 0
+IsRefusal (Refused r) a = a ≡ Refuse r.code r.at
+IsRefusal Memory a = ⊤
+
+abbrev pub Judges : Option Refusal → Store → Answer → Type 0
+Judges None st a = a ≡ Read (records_of st)
+Judges (Some r) st a = a ≡ Refuse r.code r.at

@@ -4,7 +4,9 @@
 mod labels;
 mod line;
 mod lines;
+mod reader;
 mod store;
 mod values;
 
 pub use lines::ReadRefusal;
+pub use reader::NtReader;

@@ -1,11 +1,13 @@
 // Names, labels and triples.
 ghost use Rattle.std.specs.Prelude.{◌≡◌, IfOk, OnOk};
 ghost use Rattle.ntriples_lines.specs.Storing as spec;
+ghost use Rattle.ntriples_lines.specs.Answers as answers;
 
 use crate::labels::Labels;
 use crate::line::{Line, Sort};
 use crm_outside::Text;
-use rdf_terms::{Code, Literal, NameFault, Names, Refusal, Term, Triple, TripleFault, Triples};
+use ntriples_tokens::Kind;
+use rdf_terms::{Code, Literal, NameFault, Names, Records, Refusal, Term, Triple, TripleFault, Triples};
 use std::alloc::{AllocError, Global};
 
 /// The names, labels and triples of the lines so far.
@@ -134,5 +136,31 @@ impl Held {
             });
         }
         Ok(())
+    }
+
+    /// Adds the triple of a line behind its full stop.
+    pub(crate) fn add_behind(
+        &mut self,
+        alloc: Global,
+        kind: Kind,
+        line: &Line,
+    ) -> Result<(), AllocError>
+        ensures { OnOk result (self.new ≡ answers.held_behind kind line.now self.old) }
+    {
+        match kind {
+            Kind::Dot => self.add(alloc, line),
+            _ => Ok(()),
+        }
+    }
+
+    /// The names and triples.
+    pub(crate) fn into_records(self) -> Records
+        ensures { result ≡ answers.records_of self.store }
+    {
+        let store = self.store;
+        Records {
+            names: store.names,
+            triples: store.triples,
+        }
     }
 }
