@@ -6,6 +6,8 @@ mod line;
 mod lines;
 mod reader;
 mod store;
+#[cfg(test)]
+mod tests;
 mod values;
 
 pub use lines::ReadRefusal;

@@ -113,7 +113,11 @@ fn put_iri(chars: &[char], out: &mut String) -> Result<Option<Code>, AllocError>
     if put_value(inside(chars), out)? {
         return Ok(Some(Code::G6));
     }
-    if has_scheme(out.as_str()) { Ok(None) } else { Ok(Some(Code::G5)) }
+    if has_scheme(out.as_str()) {
+        Ok(None)
+    } else {
+        Ok(Some(Code::G5))
+    }
 }
 
 /// What was read of a line.
@@ -208,7 +212,8 @@ impl Line {
         self.at = at;
         self.tag.clear();
         self.datatype.clear();
-        self.datatype.push_str("http://www.w3.org/2001/XMLSchema#string")?;
+        self.datatype
+            .push_str("http://www.w3.org/2001/XMLSchema#string")?;
         put_value(inside(chars), &mut self.object)?;
         Ok(())
     }
@@ -218,17 +223,13 @@ impl Line {
         ensures { OnOk result (self.new ≡ spec.with_token Kind.AtWord self.old chars.now 0) }
     {
         self.datatype.clear();
-        self.datatype.push_str("http://www.w3.org/1999/02/22-rdf-syntax-ns#langString")?;
+        self.datatype
+            .push_str("http://www.w3.org/1999/02/22-rdf-syntax-ns#langString")?;
         put_lowercase(behind(chars, 1), &mut self.tag)
     }
 
     /// Takes a token at a byte offset, or says why it is refused.
-    pub fn take(
-        &mut self,
-        kind: Kind,
-        chars: &[char],
-        at: u64,
-    ) -> Result<Option<Code>, AllocError>
+    pub fn take(&mut self, kind: Kind, chars: &[char], at: u64) -> Result<Option<Code>, AllocError>
         ensures code { IfOk result (λ code. code ≡ spec.code_at self.old kind chars.now) }
         ensures line { OnOk result (spec.code_at self.old kind chars.now ≡ None → self.new ≡ spec.line_after self.old kind chars.now at) }
     {

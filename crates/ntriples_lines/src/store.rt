@@ -7,7 +7,9 @@ use crate::labels::Labels;
 use crate::line::{Line, Sort};
 use crm_outside::Text;
 use ntriples_tokens::Kind;
-use rdf_terms::{Code, Literal, NameFault, Names, Records, Refusal, Term, Triple, TripleFault, Triples};
+use rdf_terms::{
+    Code, Literal, NameFault, Names, Records, Refusal, Term, Triple, TripleFault, Triples,
+};
 use std::alloc::{AllocError, Global};
 
 /// The names, labels and triples of the lines so far.

@@ -43,7 +43,11 @@ fn digit(c: char) -> u32
 fn more_digits(number: u64, c: char) -> u64
     ensures { result ≡ spec.more_digits number c }
 {
-    if number < 0x1_0000_0000 { number * 16 + u64::from(digit(c)) } else { 0 }
+    if number < 0x1_0000_0000 {
+        number * 16 + u64::from(digit(c))
+    } else {
+        0
+    }
 }
 
 fn char_of(number: u64) -> char

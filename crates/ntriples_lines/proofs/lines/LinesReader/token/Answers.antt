@@ -31,7 +31,7 @@ returns-clause-answer c =
     let line = c.take.new.self in
     let code : code_at l k (take n chars) ≡ None = ap (code_at l k) (sym c.chars.ensures) ∙ sym c.in_ok-taken.ensures.code ∙ c.in_default.is in
     let after : line ≡ line_after l k (take n chars) at =
-        c.in_ok-taken.ensures.line (sym c.in_ok-taken.ensures.code ∙ c.in_default.is) ∙ ap (λ x. line_after l k x c.at-at.result) c.chars.ensures ∙ ap (line_after l k (take n chars)) c.at-at.ensures in
+    c.in_ok-taken.ensures.line (sym c.in_ok-taken.ensures.code ∙ c.in_default.is) ∙ ap (λ x. line_after l k x c.at-at.result) c.chars.ensures ∙ ap (line_after l k (take n chars)) c.at-at.ensures in
     on_ok_map c.add_behind.result (c.add_behind.new.self ≡ held_behind k line h)
     ((more : List ℕ) → answer_of (record { alloc = c.args.self.now.alloc; cutter = c.cut.new.self; line = line; held = c.add_behind.new.self; refusal = c.args.self.now.refusal }) more
     ≡ judge l h (token_items k n (chars ++ more) at))
