@@ -68,7 +68,7 @@ impl Model for Cutter {
 }
 
 fn width_of(chars: &[char]) -> u64
-    requires { length chars.now < 2 ^ 34 }
+    requires { length chars.now < 2 ^ 42 }
     ensures { result ≡ width chars.now }
 {
     let mut sum: u64 = 0;
@@ -94,7 +94,7 @@ impl Cutter {
     #[tactic(auto, using(crate::proofs::Widths::width_push))]
     /// Takes the next character, and says whether the token at the front may be known.
     pub fn take(&mut self, c: char) -> Result<bool, AllocError>
-        requires { self.old.at + width self.old.chars < 2 ^ 32 }
+        requires { self.old.at + width self.old.chars < 2 ^ 40 }
         ensures items { OnOk result ((more : List ℕ) → spec.items_of self.new more ≡ spec.items_of self.old (c ∷ more)) }
         ensures place { OnOk result (self.new.at + width self.new.chars ≡ self.old.at + width self.old.chars + len_utf8 c) }
         ensures err { OnErr result (self.new ≡ self.old) }
@@ -119,7 +119,7 @@ impl Cutter {
 
     // Drops what stands before the next token.
     fn skip(&mut self)
-        requires { self.old.at + width self.old.chars < 2 ^ 33 }
+        requires { self.old.at + width self.old.chars < 2 ^ 41 }
         ensures items { (more : List ℕ) → spec.items_of self.new more ≡ spec.items_of self.old more }
         ensures front { spec.TokenFirst self.new.place self.new.chars }
         ensures shorter { length self.new.chars ≤ length self.old.chars }
@@ -150,7 +150,7 @@ impl Cutter {
 
     /// What stands at the front, where that is certain. `whole` says that no character comes any more.
     pub fn front(&mut self, whole: bool) -> Option<Front>
-        requires { self.old.at + width self.old.chars < 2 ^ 33 }
+        requires { self.old.at + width self.old.chars < 2 ^ 41 }
         ensures items { (more : List ℕ) → spec.items_of self.new more ≡ spec.items_of self.old more }
         ensures front { IfSome result (λ f. (more : List ℕ) → (whole ≡ true → more ≡ [])
             → spec.items_of self.new more ≡ spec.front_items f (self.new.chars ++ more) self.new.at) }
@@ -176,7 +176,7 @@ impl Cutter {
     // The width of the first characters, which is known of those that were read.
     fn front_width(&self, n: usize) -> u64
         requires within { n ≤ length self.now.chars }
-        requires room { spec_width self.now.chars < 2 ^ 33 }
+        requires room { spec_width self.now.chars < 2 ^ 41 }
         ensures width { result ≡ spec_width (take n self.now.chars) }
         ensures small { result ≤ spec_width self.now.chars }
     {
@@ -190,7 +190,7 @@ impl Cutter {
     pub fn cut(&mut self, n: usize)
         requires some { 0 < n }
         requires within { n ≤ length self.old.chars }
-        requires room { self.old.at + width self.old.chars < 2 ^ 33 }
+        requires room { self.old.at + width self.old.chars < 2 ^ 41 }
         ensures items { (more : List ℕ) → spec.items_of self.new more ≡ spec.items_behind n self.old more }
         ensures shorter { length self.new.chars + n ≡ length self.old.chars }
         ensures place { self.new.at + width self.new.chars ≡ self.old.at + width self.old.chars }

@@ -51,7 +51,7 @@ first_inner : (t c k : ℕ) (rest : List ℕ) → k < length (t ∷ []) → take
 first_inner t c zero rest h e = encode_some c rest e
 first_inner t c (suc k) rest h e = absurd (omega arith)
 
-first_part : (t : ℕ) → Part (begun t) (t ∷ [])
+pub first_part : (t : ℕ) → Part (begun t) (t ∷ [])
 first_part t = record { some = omega arith; leads = first_leads t; back = first_back t; inner = first_inner t }
 
 -- a step that is no end goes on by some bytes
@@ -79,7 +79,7 @@ no_end s part h i j o c k rest e =
     let nothing = (encode_same c on.2 (rest ++ (drop k part ++ (b ∷ on.1))) [] whole).1 in
     nil_apart b (rest ++ drop k part) on.1 (append_assoc rest (drop k part) (b ∷ on.1) ∙ nothing)
 
-next_part : (s : Step) (part : List ℕ) (b : ℕ) → IsSmall s → (s ≡ Idle → ⊥) → (s ≡ Bad → ⊥) → Opens s part → Part (pushed s b) (part ++ (b ∷ []))
+pub next_part : (s : Step) (part : List ℕ) (b : ℕ) → IsSmall s → (s ≡ Idle → ⊥) → (s ≡ Bad → ⊥) → Opens s part → Part (pushed s b) (part ++ (b ∷ []))
 next_part s part b h i j o = record {
   some = omega (arith, length-append part (b ∷ []));
   leads = λ rest c good e. next_leads s b rest c (o.leads (b ∷ rest) c good (e ∙ append_assoc part (b ∷ []) rest));
@@ -124,19 +124,19 @@ ends_not front part u some never v =
     absurd (omega (arith, n.longest (length (front ++ part)) (omega arith) (subst IsUtf8 (sym whole) v), length-append front part, some))
 
 -- a whole character
-said_whole : (front part : List ℕ) (n : ℕ) → IsUtf8 front → Part (Whole n) part → (chars : List ℕ) × IsChars (chars ++ n ∷ []) (front ++ part)
-said_whole front part n u p =
+scalars_more : (cs : List ℕ) (c : ℕ) → scalars cs ≡ true → scalar c ≡ true → scalars (cs ++ c ∷ []) ≡ true
+scalars_more [] c h g = and_from (scalar c) true g refl
+scalars_more (d ∷ cs) c h g = let both = and_parts (scalar d) (scalars cs) h in and_from (scalar d) (scalars (cs ++ c ∷ [])) both.0 (scalars_more cs c both.1 g)
+
+pub one_more : (front part chars : List ℕ) (n : ℕ) → IsChars chars front → Part (Whole n) part → IsChars (chars ++ n ∷ []) (front ++ part)
+one_more front part chars n u p =
     let x = p.back [] n (refl, refl) in (
-      u.0,
-      (
-        scalars_more u.0 n u.1.0 x.0,
-        encodes-append u.0 (n ∷ []) ∙ ap (λ s. encodes u.0 ++ s) (append_nil (encode n) ∙ x.1 ∙ append_nil part) ∙ ap (λ s. s ++ part) u.1.1,
-      ),
+      scalars_more chars n u.0 x.0,
+      encodes-append chars (n ∷ []) ∙ ap (λ s. encodes chars ++ s) (append_nil (encode n) ∙ x.1 ∙ append_nil part) ∙ ap (λ s. s ++ part) u.1,
     )
-  where
-    scalars_more : (cs : List ℕ) (c : ℕ) → scalars cs ≡ true → scalar c ≡ true → scalars (cs ++ c ∷ []) ≡ true
-    scalars_more [] c h g = and_from (scalar c) true g refl
-    scalars_more (d ∷ cs) c h g = let both = and_parts (scalar d) (scalars cs) h in and_from (scalar d) (scalars (cs ++ c ∷ [])) both.0 (scalars_more cs c both.1 g)
+
+said_whole : (front part : List ℕ) (n : ℕ) → IsUtf8 front → Part (Whole n) part → (chars : List ℕ) × IsChars (chars ++ n ∷ []) (front ++ part)
+said_whole front part n u p = (u.0, one_more front part u.0 n u.1 p)
 
 chars_utf8 : (bytes chars : List ℕ) → IsChars chars bytes → IsUtf8 bytes
 chars_utf8 bytes chars h = (chars, h)
@@ -151,7 +151,7 @@ cut_rest e part rest more same long =
     ∙ ap (λ s. s ++ drop (length part) e) (sym (take-append-le (length part) e rest long) ∙ ap (take (length part)) same ∙ take-append-le (length part) part more (omega arith) ∙ take-length part)
 
 -- a part that no character has
-no_more : (front part : List ℕ) → IsUtf8 front → Part (Inside Bad) part → BeginsUtf8 (front ++ part) → ⊥
+pub no_more : (front part : List ℕ) → IsUtf8 front → Part (Inside Bad) part → BeginsUtf8 (front ++ part) → ⊥
 no_more front part u p b =
     let rest = stripped front (part ++ b.0) u (subst IsUtf8 (append_assoc front part b.0) b.1) in
     elim (first_of (part ++ b.0) rest) [
@@ -162,7 +162,7 @@ no_more front part u p b =
       ]
     ]
 
-bad_length : (front part : List ℕ) → IsUtf8 front → Part (Inside Bad) part → IsUtf8Length (front ++ part) (length front)
+pub bad_length : (front part : List ℕ) → IsUtf8 front → Part (Inside Bad) part → IsUtf8Length (front ++ part) (length front)
 bad_length front part u p = front_length front part u p.some (λ c k rest good low e. elim (cases_lt k (length part)) [
   | inl short ↦ p.inner c k rest short e
   | inr long ↦
@@ -176,10 +176,10 @@ bad_length front part u p = front_length front part u p.some (λ c k rest good l
       | inr long ↦ p.leads (drop (length part) (encode c)) c good (cut_rest (encode c) part rest [] (sym all ∙ sym (append_nil part)) long)
     ]
 
-open_length : (s : Step) (front part : List ℕ) → IsSmall s → (s ≡ Idle → ⊥) → (s ≡ Bad → ⊥) → IsUtf8 front → Opens s part → IsUtf8Length (front ++ part) (length front)
+pub open_length : (s : Step) (front part : List ℕ) → IsSmall s → (s ≡ Idle → ⊥) → (s ≡ Bad → ⊥) → IsUtf8 front → Opens s part → IsUtf8Length (front ++ part) (length front)
 open_length s front part h i j u o = front_length front part u o.some (λ c k rest good low e. no_end s part h i j o c k rest e)
 
-open_not : (s : Step) (front part : List ℕ) → IsSmall s → (s ≡ Idle → ⊥) → (s ≡ Bad → ⊥) → IsUtf8 front → Opens s part → IsUtf8 (front ++ part) → ⊥
+pub open_not : (s : Step) (front part : List ℕ) → IsSmall s → (s ≡ Idle → ⊥) → (s ≡ Bad → ⊥) → IsUtf8 front → Opens s part → IsUtf8 (front ++ part) → ⊥
 open_not s front part h i j u o = ends_not front part u o.some (λ c k rest good low e. no_end s part h i j o c k rest e)
 
 one_char : (c : ℕ) → scalar c ≡ true → IsUtf8 (encode c)
@@ -191,7 +191,7 @@ open_begins s front part h i j u o =
     let shown = o.back (on.0 ∷ on.1) on.2 on.3 in
     (on.0 ∷ on.1, subst IsUtf8 (ap (λ x. front ++ x) shown.1 ∙ sym (append_assoc front part (on.0 ∷ on.1))) (IsUtf8-append front (encode on.2) u (one_char on.2 shown.0)))
 
-part_opens : (s : Step) (part : List ℕ) → Part (Inside s) part → Opens s part
+pub part_opens : (s : Step) (part : List ℕ) → Part (Inside s) part → Opens s part
 part_opens s part p = record { some = p.some; leads = p.leads; back = p.back }
 
 still_idle : Idle ≡ Bad → ⊥
@@ -218,24 +218,24 @@ part_stands (Inside (Last n)) v front part u p i from count = (count, (front, pa
 part_stands (Inside (Two n low high)) v front part u p i from count = (count, (front, part, refl, u, from, part_opens (Two n low high) part p))
 part_stands (Inside (Three n low high)) v front part u p i from count = (count, (front, part, refl, u, from, part_opens (Three n low high) part p))
 
-begun_on : (t : ℕ) → begun t ≡ Inside Idle → ⊥
+pub begun_on : (t : ℕ) → begun t ≡ Inside Idle → ⊥
 begun_on t e = grind (arith, nat_tests)
 
 if_on : (b : Bool) (p : Pushed) → (p ≡ Inside Idle → ⊥) → cond b p (Inside Bad) ≡ Inside Idle → ⊥
 if_on true p h e = h e
 if_on false p h e = cc e
 
-pushed_on : (s : Step) (t : ℕ) → pushed s t ≡ Inside Idle → ⊥
+pub pushed_on : (s : Step) (t : ℕ) → pushed s t ≡ Inside Idle → ⊥
 pushed_on Idle t e = begun_on t e
 pushed_on (Last n) t e = if_on (nat_le 128 t && nat_le t 191) (Whole (bits n t)) (λ x. cc x) e
 pushed_on (Two n low high) t e = if_on (nat_le low t && nat_le t high) (Inside (Last (bits n t))) (λ x. cc x) e
 pushed_on (Three n low high) t e = if_on (nat_le low t && nat_le t high) (Inside (Two (bits n t) 128 191)) (λ x. cc x) e
 pushed_on Bad t e = cc e
 
-bad_more : (bytes : List ℕ) (b : ℕ) → (BeginsUtf8 bytes → ⊥) → BeginsUtf8 (bytes ++ b ∷ []) → ⊥
+pub bad_more : (bytes : List ℕ) (b : ℕ) → (BeginsUtf8 bytes → ⊥) → BeginsUtf8 (bytes ++ b ∷ []) → ⊥
 bad_more bytes b h x = h (b ∷ x.0, subst IsUtf8 (append_assoc bytes (b ∷ []) x.0) x.1)
 
-bad_longer : (bytes : List ℕ) (b n : ℕ) → (BeginsUtf8 bytes → ⊥) → IsUtf8Length bytes n → IsUtf8Length (bytes ++ b ∷ []) n
+pub bad_longer : (bytes : List ℕ) (b n : ℕ) → (BeginsUtf8 bytes → ⊥) → IsUtf8Length bytes n → IsUtf8Length (bytes ++ b ∷ []) n
 bad_longer bytes b n h l = record {
   in_bytes = omega (arith, l.in_bytes, length-append bytes (b ∷ []));
   front = subst IsUtf8 (sym (take-append-le n bytes (b ∷ []) l.in_bytes)) l.front;

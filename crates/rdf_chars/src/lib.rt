@@ -2,6 +2,7 @@
 #![tactic(auto)]
 
 mod escapes;
+pub mod laws;
 mod sets;
 #[cfg(test)]
 mod tests;

@@ -1,0 +1,5 @@
+pub mod Values
+pub mod Lines
+pub mod Storing
+pub mod Answers
+pub mod Feeding
