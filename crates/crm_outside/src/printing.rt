@@ -1,4 +1,5 @@
 // Printing texts to a sink.
+ghost use Rattle.std.specs.Prelude.{◌≡◌, IfErr};
 ghost use Rattle.crm_outside.specs.Printing.{Prints};
 
 use crate::{Sink, write_all};
@@ -14,7 +15,8 @@ pub enum PrintFault {
 
 /// Prints a text. The only fault is `PrintFault::Failed`.
 pub fn print_text<W: Sink>(out: &mut W, text: &[u8]) -> Result<(), PrintFault>
-    ensures { Prints W.written W.faults W.sure out.old out.new text.now result }
+    ensures prints { Prints W.written W.faults W.sure out.old out.new text.now result }
+    ensures fault { IfErr result (λ f. f ≡ PrintFault.Failed) }
 {
     match write_all(out, text) {
         Ok(()) => Ok(()),

@@ -1,9 +1,14 @@
-//! Reads plain lines of N-Triples: an IRI, a space, an IRI, a space, an IRI, a space, a full stop and a line feed.
+//! The lines of N-Triples: names and triples from tokens.
 #![tactic(auto)]
 
-mod plain;
+mod labels;
+mod line;
+mod lines;
 mod reader;
+mod store;
 #[cfg(test)]
 mod tests;
+mod values;
 
-pub use reader::{NtReader, ReadRefusal};
+pub use lines::ReadRefusal;
+pub use reader::NtReader;

@@ -106,8 +106,6 @@ pub enum Code {
     L8,
     /// A certificate would be too long.
     L9,
-    /// This line is no plain line of three IRIs.
-    N1,
 }
 
 /// A refusal by its code, and the byte offset, or the count, that it is about.

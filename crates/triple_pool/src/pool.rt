@@ -63,7 +63,8 @@ impl TriplePool {
 
     /// How many triples are held.
     pub fn len(&self) -> u32
-        ensures { result ≡ length self.now.pairs }
+        ensures count { result ≡ length self.now.pairs }
+        ensures few { length self.now.pairs ≤ 262144 }
     {
         self.held
     }

@@ -1,5 +1,0 @@
-pub mod Values
-pub mod Lines
-pub mod Storing
-pub mod Answers
-pub mod Feeding
