@@ -1,70 +1,19 @@
 -- From the outcome of a part to that of the whole.
-use Rattle.std.proofs.Common.{◌≡◌, ℕ, ◌<◌, ◌≤◌, List, length, sym, subst, arith, Option, Some, None, is_some, true, inl, inr, true≢false, false, Result, Ok, Err, refl}
+use Rattle.std.proofs.Common.{◌≡◌, ℕ, ◌<◌, ◌≤◌, List, length, sym, subst, arith, Option, Some, None, is_some, true, inl, inr, true≢false, false, refl}
 use Rattle.std.specs.Prelude.{IfSome, ◌⊎◌}
 use Rattle.crm_outside.specs.Causes.{Rose}
 use Rattle.crm_outside.specs.Shelves.{Files, held}
-use Rattle.rdf_terms.specs.declared.terms.Refusal.{Refusal}
-use Rattle.rdf_terms.specs.declared.triples.Records.{Records}
-use Rattle.ntriples_reader.specs.Answers.{Answer}
-use Rattle.ntriples_reader.specs.Answers.Answer.{Refuse, Read}
-use Rattle.crm_outside.proofs.PrintedTexts.{starved}
 use Rattle.crm_core.specs.declared.status.Status.{Status}
 use Rattle.crm_core.specs.declared.status.Status.TheVariants.{Done, Findings, Refused, Usage, ReadFault, WriteFault, Memory}
-use Rattle.crm_core.specs.declared.status.ArchiveFault.TheVariants as archive
-use Rattle.crm_core.specs.declared.status.ReportFault.{ReportFault}
-use Rattle.crm_core.specs.declared.status.ReportFault.TheVariants as fault
-use Rattle.crm_core.specs.Files.{file_answer, is_ntriples, IsTold, AnswersBytes, Answers}
-use Rattle.crm_core.specs.Reports.{Report, Writes, IsEnding, refusal_report}
+use Rattle.crm_core.specs.Reports.{Report}
 use Rattle.crm_cli.specs.declared.words.Command.{Command}
-use Rattle.crm_cli.specs.Outcomes.{Outcome, Ends, IsComplete, Faulted, ended}
-use Rattle.crm_cli.specs.Report.{records_report, answer_report, told_report, read_fault_report, file_report, usage_report, command_report}
+use Rattle.crm_cli.specs.Outcomes.{Outcome, Ends, IsComplete, Faulted}
+use Rattle.crm_cli.specs.Report.{read_fault_report, file_report, usage_report, command_report}
 
 module _ {S : Type 0} (written : S → Option (List ℕ)) (faults sure : S → ℕ) (a b : S) where
-  -- a report that was written, or broke off
-  pub report_ended : (r : Report) (x : Result Status ReportFault) → Writes written faults sure a b r x → Outcome written faults sure a b r (ended x)
-  report_ended r (Ok Done) w = (sym w.status.0, w.ok)
-  report_ended r (Ok Findings) w = (sym w.status.0, w.ok)
-  report_ended r (Ok Refused) w = (sym w.status.0, w.ok)
-  report_ended r (Ok Usage) w = absurd w.status.1
-  report_ended r (Ok ReadFault) w = absurd w.status.1
-  report_ended r (Ok WriteFault) w = absurd w.status.1
-  report_ended r (Ok Memory) w = absurd w.status.1
-  report_ended r (Err fault.Failed) w = w.err
-  report_ended r (Err fault.Memory) w = w.err
-
   module _ (status : Status) where
     abbrev Ending : Report → Type 0
     Ending r = Outcome written faults sure a b r status
-
-    of_records : (command : Command) (r : Records) (o : Option Answer) → IsTold (Ok r) o → Ending (records_report command r) → Ends written faults sure a b (told_report command o) status
-    of_records command r None is p = tt
-    of_records command r (Some answer) is p = subst (λ (x : Answer). Ending (answer_report command x)) (sym is) p
-
-    records_held : (command : Command) (name : List ℕ) (o : Option (List ℕ)) (r : Records) → AnswersBytes (is_ntriples name) o (Ok r) → Ending (records_report command r)
-        → Ends written faults sure a b (file_report command name o) status
-    records_held command name None r is p = absurd is
-    records_held command name (Some bytes) r is p = of_records command r (file_answer (is_ntriples name) bytes) is p
-
-    -- the file was read
-    pub at_records : (command : Command) (name : List ℕ) (o : Option Files) (r : Records) → Answers o name (Ok r) → Ending (records_report command r)
-        → IfSome o (λ files. Ends written faults sure a b (file_report command name (files name)) status)
-    at_records command name None r is p = tt
-    at_records command name (Some files) r is p = records_held command name (files name) r is p
-
-    of_refusal : (command : Command) (f : Refusal) (o : Option Answer) → IsTold (Err (archive.Refused f)) o → Ending (refusal_report f) → Ends written faults sure a b (told_report command o) status
-    of_refusal command f None is p = tt
-    of_refusal command f (Some answer) is p = subst (λ (x : Answer). Ending (answer_report command x)) (sym is) p
-
-    refusal_held : (command : Command) (name : List ℕ) (o : Option (List ℕ)) (f : Refusal) → AnswersBytes (is_ntriples name) o (Err (archive.Refused f)) → Ending (refusal_report f)
-        → Ends written faults sure a b (file_report command name o) status
-    refusal_held command name None f is p = absurd is
-    refusal_held command name (Some bytes) f is p = of_refusal command f (file_answer (is_ntriples name) bytes) is p
-
-    -- the file was refused
-    pub at_refusal : (command : Command) (name : List ℕ) (o : Option Files) (f : Refusal) → Answers o name (Err (archive.Refused f)) → Ending (refusal_report f)
-        → IfSome o (λ files. Ends written faults sure a b (file_report command name (files name)) status)
-    at_refusal command name None f is p = tt
-    at_refusal command name (Some files) f is p = refusal_held command name (files name) f is p
 
     missing : (command : Command) (name : List ℕ) (o : Option (List ℕ)) → is_some o ≡ false → Ending (read_fault_report name) → Ends written faults sure a b (file_report command name o) status
     missing command name None is p = p
@@ -76,15 +25,11 @@ module _ {S : Type 0} (written : S → Option (List ℕ)) (faults sure : S → �
     not_held command name None is p = tt
     not_held command name (Some files) is p = missing command name (files name) is p
 
-    -- the first of two ways to end
-    pub surely : (o : Option Files) (P Q : Files → Type 0) → IfSome o P → IfSome o (λ files. P files ⊎ Q files)
-    surely None P Q p = tt
-    surely (Some files) P Q p = inl p
-
-    -- the second
-    pub otherwise : (o : Option Files) (P : Files → Type 0) (Q : Type 0) → Q → IfSome o (λ files. P files ⊎ Q)
-    otherwise None P Q q = tt
-    otherwise (Some files) P Q q = inr q
+    -- a call on the shelf failed
+    pub faulted : (command : Command) (name : List ℕ) (o : Option Files) (rose : Type 0) → rose → Ending (read_fault_report name)
+        → IfSome o (λ files. Ends written faults sure a b (file_report command name (files name)) status ⊎ rose × Ending (read_fault_report name))
+    faulted command name None rose r p = tt
+    faulted command name (Some files) rose r p = inr (r, p)
 
 module _ {S : Type 0} (written : S → Option (List ℕ)) (faults sure : S → ℕ) (a b : S) (status : Status) (rose : Type 0) where
   abbrev AtCommand : Option Files → Option Command → Type 0

@@ -34,13 +34,38 @@ fn prints_reports_and_refusals(rt: HostRuntime) -> Result<(), Fail> {
     let broken = format!(in alloc; "{PLAIN}x\n")?;
     for (words, file, status, text) in [
         (["orders", "a.nt"].as_slice(), PLAIN, Status::Done, ORDERS),
-        (["convert", "--base", "http://e/", "a.nt"].as_slice(), PLAIN, Status::Done, PLAIN),
-        (["check", "a.nt"].as_slice(), "_:a <http://e/p> \"a\" .", Status::Done, "triples 1\nfaults 0\n"),
-        (["check", "a.nt"].as_slice(), broken.as_str(), Status::Refused, "refused G1 at 70\n"),
-        (["orders", "b.nt"].as_slice(), PLAIN, Status::ReadFault, "read fault b.nt\n"),
+        (
+            ["convert", "--base", "http://e/", "a.nt"].as_slice(),
+            PLAIN,
+            Status::Done,
+            PLAIN,
+        ),
+        (
+            ["check", "a.nt"].as_slice(),
+            "_:a <http://e/p> \"a\" .",
+            Status::Done,
+            "triples 1\nfaults 0\n",
+        ),
+        (
+            ["check", "a.nt"].as_slice(),
+            broken.as_str(),
+            Status::Refused,
+            "refused G1 at 70\n",
+        ),
+        (
+            ["orders", "b.nt"].as_slice(),
+            PLAIN,
+            Status::ReadFault,
+            "read fault b.nt\n",
+        ),
         (["orders"].as_slice(), PLAIN, Status::Usage, USAGE),
         (["orders", "--a"].as_slice(), PLAIN, Status::Usage, USAGE),
-        (["check", "--base", "e", "a.nt"].as_slice(), PLAIN, Status::Usage, USAGE),
+        (
+            ["check", "--base", "e", "a.nt"].as_slice(),
+            PLAIN,
+            Status::Usage,
+            USAGE,
+        ),
         (["matrix", "a.nt"].as_slice(), PLAIN, Status::Usage, USAGE),
     ] {
         let given = words_of(alloc, words)?;
@@ -61,9 +86,21 @@ fn tells_faults_of_devices(rt: HostRuntime) -> Result<(), Fail> {
     let mut first = Numbers::new(alloc);
     first.push(0)?;
     for (shelf_fails, sink_fails, room, status, text) in [
-        (second, Numbers::new(alloc), 99usize, Status::ReadFault, "read fault a.nt\n"),
+        (
+            second,
+            Numbers::new(alloc),
+            99usize,
+            Status::ReadFault,
+            "read fault a.nt\n",
+        ),
         (Numbers::new(alloc), first, 99, Status::WriteFault, ""),
-        (Numbers::new(alloc), Numbers::new(alloc), 10, Status::WriteFault, "triples 1\n"),
+        (
+            Numbers::new(alloc),
+            Numbers::new(alloc),
+            10,
+            Status::WriteFault,
+            "triples 1\n",
+        ),
     ] {
         let mut shelf = shelf_of(alloc, PLAIN, shelf_fails)?;
         let mut out = MemSink::new(alloc, room, 3, sink_fails)?;

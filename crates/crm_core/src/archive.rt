@@ -61,11 +61,7 @@ impl Archive {
     /// N-Triples.
     ///
     /// A refused file is read to its end too, since a text that is too long or is no UTF-8 is refused as that.
-    pub fn read<S: Shelf>(
-        alloc: Global,
-        shelf: &mut S,
-        name: &str,
-    ) -> Result<Archive, ArchiveFault>
+    pub fn read<S: Shelf>(alloc: Global, shelf: &mut S, name: &str) -> Result<Archive, ArchiveFault>
         ensures answer { Answers (S.files shelf.old) name.now result }
         ensures failed { IsErrOf result ArchiveFault.Failed → Rose (S.faults shelf.old) (S.faults shelf.new) }
         ensures missing { S.honest shelf.old ≡ true → (IsErrOf result ArchiveFault.Failed ↔ (is_some (held (S.files shelf.old) name.now) ≡ false)) }

@@ -36,11 +36,7 @@ fn status_of(faults: &Faults) -> Status
     }
 }
 
-fn tell_refusal<W: Sink>(
-    alloc: Global,
-    refusal: Refusal,
-    out: &mut W,
-) -> Result<Status, PrintFault>
+fn tell_refusal<W: Sink>(alloc: Global, refusal: Refusal, out: &mut W) -> Result<Status, PrintFault>
     ensures { Tells W.written W.faults W.sure out.old out.new (refusal_report refusal) result }
 {
     let Ok(line) = refusal_line(alloc, refusal) else {
@@ -50,12 +46,7 @@ fn tell_refusal<W: Sink>(
     Ok(Status::Refused)
 }
 
-fn tell_count<W: Sink>(
-    alloc: Global,
-    code: &str,
-    n: u32,
-    out: &mut W,
-) -> Result<Status, PrintFault>
+fn tell_count<W: Sink>(alloc: Global, code: &str, n: u32, out: &mut W) -> Result<Status, PrintFault>
     ensures { Tells W.written W.faults W.sure out.old out.new (passed code.now n) result }
 {
     let Ok(line) = count_refusal_line(alloc, code, n) else {
@@ -66,11 +57,7 @@ fn tell_count<W: Sink>(
 }
 
 // Tells why there are no orders.
-fn tell_passed<W: Sink>(
-    alloc: Global,
-    fault: BuildFault,
-    out: &mut W,
-) -> Result<Status, PrintFault>
+fn tell_passed<W: Sink>(alloc: Global, fault: BuildFault, out: &mut W) -> Result<Status, PrintFault>
     ensures { TellsPassed W.written W.faults W.sure out.old out.new fault result }
 {
     match fault {
@@ -81,11 +68,7 @@ fn tell_passed<W: Sink>(
     }
 }
 
-fn tell_check<W: Sink>(
-    alloc: Global,
-    records: &Records,
-    out: &mut W,
-) -> Result<Status, PrintFault>
+fn tell_check<W: Sink>(alloc: Global, records: &Records, out: &mut W) -> Result<Status, PrintFault>
     ensures { Tells W.written W.faults W.sure out.old out.new (check_report records.now) result }
 {
     let Ok(survey) = take_survey(alloc, records) else {
@@ -118,11 +101,7 @@ fn build_dossier(alloc: Global, records: &Records, survey: &Survey) -> Result<Do
     Dossier::build(alloc, &records.names, &survey.pool, &survey.faults)
 }
 
-fn tell_orders<W: Sink>(
-    alloc: Global,
-    records: &Records,
-    out: &mut W,
-) -> Result<Status, PrintFault>
+fn tell_orders<W: Sink>(alloc: Global, records: &Records, out: &mut W) -> Result<Status, PrintFault>
     ensures { Tells W.written W.faults W.sure out.old out.new (orders_report records.now) result }
 {
     let Ok(survey) = take_survey(alloc, records) else {

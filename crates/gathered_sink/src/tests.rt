@@ -5,7 +5,10 @@ use std::test::Fail;
 #[test]
 fn gathers_and_hands_on(rt: HostRuntime) -> Result<(), Fail> {
     let alloc = rt.alloc();
-    let mut sink = Gathered::new(alloc, MemSink::new(alloc, 70_000, 999, Numbers::new(alloc))?)?;
+    let mut sink = Gathered::new(
+        alloc,
+        MemSink::new(alloc, 70_000, 999, Numbers::new(alloc))?,
+    )?;
     let line = [7u8; 40_000];
     assert_eq!(rt; sink.write(&line), Ok(40_000));
     assert_eq!(rt; sink.write(&line), Ok(40_000));
