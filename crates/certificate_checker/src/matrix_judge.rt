@@ -1,89 +1,18 @@
-// The reading and the judgement of a certificate of a matrix.
-use crate::order_lines::OrderProof;
-use crate::reading::{Found, byte_at, read_word};
-use crate::tree_reading::{
-    CoverLeaves, DEPTH, Notes, OrderLeaves, concluded, ended, misfit, read_name, read_tree,
-};
+// The judgement of a certificate of a matrix.
+ghost use Rattle.std.specs.Prelude.{◌≡◌, ◌<◌, ◌≤◌, ◌^◌, ◌+◌, IfOk, OnOk, drop, length};
+ghost use Rattle.proof_core.specs.Proofs.{node_count};
+ghost use Rattle.certificate_reader.specs.MatrixTexts.{matrix_line_nodes};
+ghost use Rattle.certificate_checker.specs.MatrixClaims.{AreCovers, EndsBefore};
+ghost use Rattle.certificate_checker.specs.Verified.{IsMatrixShown};
+
+use crate::trees::{concluded, ended, misfit};
 use crate::{
-    CertRefusal, Cover, Covers, Join, MatrixFact, MatrixTheory, OrderFact, OrderTheory, Verdict,
-    Weaken,
+    CertRefusal, Cover, Covers, MatrixFact, MatrixTheory, OrderFact, OrderTheory, Verdict,
 };
+use certificate_reader::{Counts, MatrixLine, Notes, OrderProof, WalkProof, read_matrix_line};
 use order_core::{OrderSet, Point};
-use proof_core::{Proof, Shared};
+use proof_core::Shared;
 use std::alloc::Global;
-
-/// A tree over covers.
-pub type WalkProof = Proof<u32, Weaken, Join>;
-
-/// A line of a certificate of a matrix.
-#[derive(Drop)]
-pub enum MatrixLine {
-    Cover(Cover, OrderProof),
-    Walk(Cover, WalkProof),
-    End,
-}
-
-// Two extents, with the space behind each.
-fn read_extents(
-    text: &[u8],
-    at: usize,
-    extents: u32,
-    notes: &mut Notes,
-) -> Result<Found<Cover>, CertRefusal> {
-    let first = read_name(text, at, b'x', extents, notes)?;
-    let between = read_word(text, first.to, b" ")?;
-    let second = read_name(text, between, b'x', extents, notes)?;
-    Ok(Found {
-        value: Cover {
-            first: first.value,
-            second: second.value,
-        },
-        to: read_word(text, second.to, b" ")?,
-    })
-}
-
-// A line without its line feed.
-fn read_matrix_form(
-    alloc: Global,
-    orders: &OrderSet,
-    covers: u32,
-    text: &[u8],
-    at: usize,
-    notes: &mut Notes,
-) -> Result<Found<MatrixLine>, CertRefusal> {
-    match byte_at(text, at) {
-        Some(b'c') => {
-            let behind = read_word(text, at, b"cover ")?;
-            let pair = read_extents(text, behind, orders.extents(), notes)?;
-            let leaves = OrderLeaves {
-                orders: orders.len(),
-                kept: None,
-            };
-            let tree = read_tree(alloc, &leaves, text, pair.to, DEPTH, notes)?;
-            Ok(Found {
-                value: MatrixLine::Cover(pair.value, tree.value),
-                to: tree.to,
-            })
-        }
-        Some(b'w') => {
-            let behind = read_word(text, at, b"walk ")?;
-            let pair = read_extents(text, behind, orders.extents(), notes)?;
-            let leaves = CoverLeaves { covers };
-            let tree = read_tree(alloc, &leaves, text, pair.to, DEPTH, notes)?;
-            Ok(Found {
-                value: MatrixLine::Walk(pair.value, tree.value),
-                to: tree.to,
-            })
-        }
-        _ => {
-            let to = read_word(text, at, b"end")?;
-            Ok(Found {
-                value: MatrixLine::End,
-                to,
-            })
-        }
-    }
-}
 
 fn check_cover(
     alloc: Global,
@@ -91,7 +20,11 @@ fn check_cover(
     cover: Cover,
     proof: &OrderProof,
     notes: &Notes,
-) -> Result<(), CertRefusal> {
+) -> Result<(), CertRefusal>
+    requires { node_count proof.now < 2 ^ 32 }
+    ensures { OnOk result (EndsBefore orders.now cover) }
+{
+    orders.conditions();
     let theory = Shared::new(alloc, OrderTheory { orders });
     let asked = OrderFact {
         low: Point::End(cover.first),
@@ -111,7 +44,12 @@ fn check_walk(
     walk: Cover,
     proof: &WalkProof,
     notes: &Notes,
-) -> Result<(), CertRefusal> {
+) -> Result<(), CertRefusal>
+    requires small { node_count proof.now < 2 ^ 32 }
+    requires covers { AreCovers orders.now covers.now }
+    ensures { OnOk result (EndsBefore orders.now walk) }
+{
+    orders.conditions();
     let theory = MatrixTheory { orders, covers };
     let asked = MatrixFact {
         first: walk.first,
@@ -131,14 +69,22 @@ pub(crate) fn judge_matrix(
     orders: &OrderSet,
     text: &[u8],
     from: usize,
-) -> Result<Verdict, CertRefusal> {
+) -> Result<Verdict, CertRefusal>
+    requires within { from ≤ length text.now }
+    requires short { length text.now < 2 ^ 32 }
+    ensures { IfOk result (λ v. (v ≡ Verdict.Matrix) × IsMatrixShown orders.now (drop from text.now)) }
+{
     let mut covers = Covers::new(alloc);
     let mut walked = false;
     let mut at = from;
-    loop {
+    'lines: loop {
         let mut notes = Notes::new(alloc);
-        let line = read_matrix_form(alloc, orders, covers.len() as u32, text, at, &mut notes)?;
-        let to = read_word(text, line.to, b"\n")?;
+        let known = Counts {
+            orders: orders.len(),
+            extents: orders.extents(),
+            covers: covers.len() as u32,
+        };
+        let line = read_matrix_line(alloc, &known, text, at, &mut notes)?;
         if walked && matches!(line.value, MatrixLine::Cover(_, _)) {
             return Err(CertRefusal::K6(at as u64));
         }
@@ -154,8 +100,8 @@ pub(crate) fn judge_matrix(
                 check_walk(orders, &covers, walk, &proof, &notes)?;
                 walked = true;
             }
-            MatrixLine::End => return ended(text, to, Verdict::Matrix),
+            MatrixLine::End => return ended(text, line.to, Verdict::Matrix),
         }
-        at = to;
+        at = line.to;
     }
 }

@@ -105,7 +105,7 @@ fn judges_worked_certificates(rt: HostRuntime) -> Result<(), Fail> {
     periods.push(1)?;
     let trees = format!(in alloc; "crmtime 1 orders\n{PLACES}{TREES}{OPEN}")?;
     let shared = format!(in alloc; "crmtime 2 orders\n{PLACES}{SHARED}{OPEN}")?;
-    for (text, old, new, want) in [
+    for (base, old, new, want) in [
         (trees.as_str(), "x", "x", Ok(Verdict::Consistent)),
         (
             trees.as_str(),
@@ -156,8 +156,8 @@ fn judges_worked_certificates(rt: HostRuntime) -> Result<(), Fail> {
         (CLASSES, "E4.E2)", "E4.E1)", Err(CertRefusal::K4(45))),
         (CLASSES, "E77", "E39", Err(CertRefusal::K3(30))),
     ] {
-        let text = changed(alloc, text, old, new)?;
-        let orders = if text.as_str() == WALKS { &chain } else { &set };
+        let text = changed(alloc, base, old, new)?;
+        let orders = if base == WALKS { &chain } else { &set };
         let got = answer(alloc, orders, &periods, text.as_bytes())?;
         assert_eq!(rt; got, want, "{text}");
     }
