@@ -49,3 +49,7 @@ join_places leaf text x y at inside mid between old one two new i read b e f h =
     let B = node_places leaf y (at + length (tree_bytes leaf x) + 3) in
     h ∙ ap (λ z. z ++ at ∷ []) (f ∙ ap (λ n. one ++ node_places leaf y n) other ∙ ap (λ z. z ++ B) (e ∙ ap (λ n. old ++ node_places leaf x n) same))
     ∙ ap (λ z. z ++ at ∷ []) (append_assoc old A B) ∙ append_assoc old (A ++ B) (at ∷ [])
+
+-- the places of what begins later
+pub later_places : (f : ℕ → List ℕ) (old mid new : List ℕ) (n m : ℕ) → mid ≡ old → new ≡ mid ++ f n → n ≡ m → new ≡ old ++ f m
+later_places f old mid new n m same e later = e ∙ ap (λ z. z ++ f n) same ∙ ap (λ k. old ++ f k) later
