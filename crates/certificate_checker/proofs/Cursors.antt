@@ -77,10 +77,11 @@ pub question_is : (ps : List ℕ) (c : Cursor) (a b : ℕ) → IsSettled ps c �
     (qs : List Question) × (questions_left ps c ≡ asks a b c.side ∷ qs)
 question_is ps c a b settled h e f =
     let s = settled h in
-    let q = side_first c.side (get_or ps c.first 0) (get_or ps c.second 0) in
-    (q.0 ++ others ps c.first c.second,
-    left_is ps c.first c.second c.side h s.0 s.1 ∙ ap (λ z. z ++ others ps c.first c.second) q.1
-    ∙ ap (λ z. asks z (get_or ps c.second 0) c.side ∷ (q.0 ++ others ps c.first c.second)) e ∙ ap (λ z. asks a z c.side ∷ (q.0 ++ others ps c.first c.second)) f)
+    let q = side_first c.side (get_or ps c.first 0) (get_or ps c.second 0) in (
+      q.0 ++ others ps c.first c.second,
+      left_is ps c.first c.second c.side h s.0 s.1 ∙ ap (λ z. z ++ others ps c.first c.second) q.1
+          ∙ ap (λ z. asks z (get_or ps c.second 0) c.side ∷ (q.0 ++ others ps c.first c.second)) e ∙ ap (λ z. asks a z c.side ∷ (q.0 ++ others ps c.first c.second)) f,
+    )
 
 tail_is : {X : Type 0} (x y : X) (xs ys : List X) → x ∷ xs ≡ y ∷ ys → xs ≡ ys
 tail_is x y xs ys e = cc e

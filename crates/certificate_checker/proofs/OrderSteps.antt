@@ -57,12 +57,6 @@ claim_stays g placings more q (Open p) t = (
   (let P : List Position → Type 0 = λ z. HasAfter g z q in subst P (sym (get_or_append_left placings more [] p t.0)) t.1),
 )
 
-all_push : {F : Type 0} (P : F → Type 0) (xs : List F) (f : F) → All P xs → P f → All P (xs ++ f ∷ [])
-all_push P xs f all last n d h = elim (cases_lt n (length xs)) [
-  | inl old ↦ subst P (sym (get_or_append_left xs (f ∷ []) d n old)) (all n d old)
-  | inr new ↦ subst P (sym (get_or_push xs f d n (omega (arith, h, length-append xs (f ∷ []))))) last
-]
-
 module _ (g : Orders) (periods : List ℕ) (kept : List OrderFact) (placings : List (List Position)) (next : Cursor) (cycled : Bool) (lines : List OrderLine)
     (j : IsJudged g periods kept placings next cycled lines) where
   none_pair : (l : OrderLine) → ((q : Question) (c : Claim) → Pair q c ≡ l → ⊥) → (q : Question) (c : Claim) → Stands (Pair q c) (lines ++ l ∷ []) → Stands (Pair q c) lines
@@ -85,10 +79,10 @@ module _ (g : Orders) (periods : List ℕ) (kept : List OrderFact) (placings : L
     refuted = j.refuted;
   }
 
-  pub judged_let : (f : OrderFact) (l : OrderLine) → placings_in (l ∷ []) ≡ [] → questions_in (l ∷ []) ≡ [] → ((q : Question) (c : Claim) → Pair q c ≡ l → ⊥) → IsTrueFact g f →
-      IsJudged g periods (kept ++ f ∷ []) placings next cycled (lines ++ l ∷ [])
-  judged_let f l no_placing no_question none true_f = record {
-    facts = all_push (IsTrueFact g) kept f j.facts true_f;
+  pub judged_let : (more : List OrderFact) (l : OrderLine) → placings_in (l ∷ []) ≡ [] → questions_in (l ∷ []) ≡ [] → ((q : Question) (c : Claim) → Pair q c ≡ l → ⊥) → All (IsTrueFact g) more →
+      IsJudged g periods more placings next cycled (lines ++ l ∷ [])
+  judged_let more l no_placing no_question none true_facts = record {
+    facts = true_facts;
     placed = j.placed ∙ sym (placings_append lines (l ∷ []) ∙ ap (λ z. placings_in lines ++ z) no_placing ∙ append-nil (placings_in lines));
     satisfied = j.satisfied;
     asked = j.asked ∙ ap (λ z. z ++ questions_left periods next)

@@ -6,11 +6,11 @@ ghost use Rattle.certificate_checker.specs.Classes.{IsTrueClass};
 ghost use Rattle.certificate_checker.specs.ClassClaims.{IsRow, IsTrueLine};
 ghost use Rattle.certificate_checker.specs.Verified.{AreClassesShown};
 
-use crate::trees::{concluded, ended, misfit};
+use crate::trees::{check_names, concluded, ended, misfit};
 use crate::{CertRefusal, ClassFact, ClassTheory, Verdict};
 use certificate_reader::{ClassProof, MarkedLine, Notes, byte_at, read_class_line, read_word};
 use crm_classes::ClassId;
-use crm_outside::{Items, Numbers};
+use crm_outside::Items;
 use rdf_terms::Term;
 use std::alloc::Global;
 
@@ -87,20 +87,28 @@ fn check_line(
     if !marked.known {
         return Err(CertRefusal::K3(marked.class_at as u64));
     }
-    if let Some(place) = notes.unknown {
-        return Err(CertRefusal::K3(place as u64));
-    }
+    check_names(notes)?;
     let places = notes.places.as_slice();
     let nodes = marked.nodes.min(places.len());
-    check_fact(first.class, line.first_class, &line.first_tree, &places[..nodes])?;
-    check_fact(second.class, line.second_class, &line.second_tree, &places[nodes..])
+    check_fact(
+        first.class,
+        line.first_class,
+        &line.first_tree,
+        &places[..nodes],
+    )?;
+    check_fact(
+        second.class,
+        line.second_class,
+        &line.second_tree,
+        &places[nodes..],
+    )
 }
 
 /// Judges the lines from a place on.
 pub(crate) fn judge_classes(
     alloc: Global,
-    types: &TypeRows,
-    due: &Numbers,
+    types: &[TypeRow],
+    due: &[u32],
     text: &[u8],
     from: usize,
 ) -> Result<Verdict, CertRefusal>
@@ -113,10 +121,10 @@ pub(crate) fn judge_classes(
     'lines: while byte_at(text, at) == Some(b'c') {
         let mut notes = Notes::new(alloc);
         let line = read_class_line(alloc, text, at, &mut notes)?;
-        if due.get(judged).copied() != Some(line.value.line.first) {
+        if judged >= due.len() || due[judged] != line.value.line.first {
             return Err(CertRefusal::K6(at as u64));
         }
-        check_line(types.as_slice(), &line.value, &notes, at)?;
+        check_line(types, &line.value, &notes, at)?;
         judged += 1;
         at = line.to;
     }

@@ -18,9 +18,7 @@ mod trees;
 mod verdicts;
 mod verifying;
 
-pub use certificate_reader::{
-    CertRefusal, ClassFact, Cover, Join, Weaken, shared_text, tree_text,
-};
+pub use certificate_reader::{CertRefusal, ClassFact, Cover, Join, Weaken, shared_text, tree_text};
 pub use class_judge::{TypeRow, TypeRows};
 pub use class_theory::ClassTheory;
 pub use matrix_theory::{Covers, MatrixFact, MatrixTheory};

@@ -1,11 +1,11 @@
 // The judgement of a certificate of a matrix.
 ghost use Rattle.std.specs.Prelude.{◌≡◌, ◌<◌, ◌≤◌, ◌^◌, ◌+◌, IfOk, OnOk, drop, length};
 ghost use Rattle.proof_core.specs.Proofs.{node_count};
-ghost use Rattle.certificate_reader.specs.MatrixTexts.{matrix_line_nodes};
-ghost use Rattle.certificate_checker.specs.MatrixClaims.{AreCovers, EndsBefore};
+ghost use Rattle.certificate_reader.specs.MatrixTexts.{matrix_line_nodes, HasExtents};
+ghost use Rattle.certificate_checker.specs.MatrixClaims.{AreCovers, EndsBefore, IsMatrixTrue};
 ghost use Rattle.certificate_checker.specs.Verified.{IsMatrixShown};
 
-use crate::trees::{concluded, ended, misfit};
+use crate::trees::{check_names, concluded, ended, misfit};
 use crate::{
     CertRefusal, Cover, Covers, MatrixFact, MatrixTheory, OrderFact, OrderTheory, Verdict,
 };
@@ -63,6 +63,33 @@ fn check_walk(
     }
 }
 
+// Judges a line that is due and whose names all name something.
+#[tactic(auto, using(crate::proofs::MatrixSteps::cover_push))]
+fn take(
+    alloc: Global,
+    orders: &OrderSet,
+    covers: &mut Covers,
+    line: &MatrixLine,
+    notes: &Notes,
+) -> Result<(), CertRefusal>
+    requires small { matrix_line_nodes line.now < 2 ^ 32 }
+    requires known { HasExtents orders.now.extents line.now }
+    requires covers { AreCovers orders.now covers.old }
+    ensures covers { OnOk result (AreCovers orders.now covers.new) }
+    ensures count { OnOk result (length covers.new ≤ length covers.old + 1) }
+    ensures line { OnOk result (IsMatrixTrue orders.now line.now) }
+{
+    match line {
+        MatrixLine::Cover(cover, proof) => {
+            check_cover(alloc, orders, *cover, proof, notes)?;
+            covers.push(*cover)?;
+            Ok(())
+        }
+        MatrixLine::Walk(walk, proof) => check_walk(orders, covers, *walk, proof, notes),
+        MatrixLine::End => Ok(()),
+    }
+}
+
 /// Judges the lines from a place on.
 pub(crate) fn judge_matrix(
     alloc: Global,
@@ -88,20 +115,12 @@ pub(crate) fn judge_matrix(
         if walked && matches!(line.value, MatrixLine::Cover(_, _)) {
             return Err(CertRefusal::K6(at as u64));
         }
-        if let Some(place) = notes.unknown {
-            return Err(CertRefusal::K3(place as u64));
+        check_names(&notes)?;
+        if let MatrixLine::End = line.value {
+            return ended(text, line.to, Verdict::Matrix);
         }
-        match line.value {
-            MatrixLine::Cover(cover, proof) => {
-                check_cover(alloc, orders, cover, &proof, &notes)?;
-                covers.push(cover)?;
-            }
-            MatrixLine::Walk(walk, proof) => {
-                check_walk(orders, &covers, walk, &proof, &notes)?;
-                walked = true;
-            }
-            MatrixLine::End => return ended(text, line.to, Verdict::Matrix),
-        }
+        walked = walked || matches!(line.value, MatrixLine::Walk(_, _));
+        take(alloc, orders, &mut covers, &line.value, &notes)?;
         at = line.to;
     }
 }

@@ -10,12 +10,11 @@ ghost use Rattle.certificate_checker.specs.OrderClaims.{fact_of, placing_at, IsO
 ghost use Rattle.certificate_checker.specs.Verified.{verdict_of, IsOrdersShown};
 
 use crate::cursor::Cursor;
-use crate::trees::{bad_node, concluded, ended, misfit};
+use crate::trees::{bad_node, check_names, concluded, ended, misfit};
 use crate::{CertRefusal, OrderFact, OrderTheory, Verdict};
 use certificate_reader::{
     Claim, Known, Notes, OrderLeaves, OrderLine, OrderProof, Question, Side, read_order_line,
 };
-use crm_outside::Numbers;
 use order_core::{OrderSet, Placing, Point, Position, holds_at};
 use proof_core::{KeepFault, Shared};
 use std::alloc::Global;
@@ -92,7 +91,7 @@ struct OrderJudge<'a> {
 impl<'a> OrderJudge<'a> {
     fn new(alloc: Global, orders: &'a OrderSet, periods: &[u32]) -> OrderJudge<'a>
         ensures kept { (result.kept ≡ 0) × (result.shared.kept ≡ []) }
-        ensures placings { result.placings.items ≡ [] }
+        ensures placings { (result.placings.items ≡ []) × (vec_len result.placings ≡ 0) }
         ensures next { IsSettled periods.now result.next × (questions_left periods.now result.next ≡ questions periods.now) }
         ensures cycled { result.cycled ≡ false }
         ensures same { result.shared.theory.orders.now ≡ orders.now }
@@ -109,6 +108,7 @@ impl<'a> OrderJudge<'a> {
 
     fn known(&self, orders: &OrderSet, shares: bool) -> Known
         requires { vec_len self.now.placings < 2 ^ 32 }
+        ensures { IfSome result.leaves.kept (λ n. n ≡ self.now.kept) }
     {
         Known {
             leaves: OrderLeaves {
@@ -289,7 +289,7 @@ impl<'a> OrderJudge<'a> {
 pub(crate) fn judge_orders(
     alloc: Global,
     orders: &OrderSet,
-    periods: &Numbers,
+    periods: &[u32],
     shares: bool,
     text: &[u8],
     from: usize,
@@ -298,7 +298,6 @@ pub(crate) fn judge_orders(
     requires short { length text.now < 2 ^ 32 }
     ensures { IfOk result (λ v. IsOrdersShown orders.now periods.now (drop from text.now) v) }
 {
-    let periods = periods.as_slice();
     let mut judge = OrderJudge::new(alloc, orders, periods);
     let mut at = from;
     'lines: loop {
@@ -308,9 +307,7 @@ pub(crate) fn judge_orders(
         if !judge.is_due(periods, &line.value) {
             return Err(CertRefusal::K6(at as u64));
         }
-        if let Some(place) = notes.unknown {
-            return Err(CertRefusal::K3(place as u64));
-        }
+        check_names(&notes)?;
         if let OrderLine::End = line.value {
             return ended(text, line.to, judge.verdict());
         }

@@ -1,9 +1,9 @@
 // What trees conclude, and the places of what is wrong with them.
-ghost use Rattle.std.specs.Prelude.{◌≡◌, ◌<◌, ◌≤◌, ◌^◌, IfOk, length};
+ghost use Rattle.std.specs.Prelude.{◌≡◌, ◌<◌, ◌≤◌, ◌^◌, None, IfOk, OnOk, length};
 ghost use Rattle.proof_core.specs.Proofs.{Concludes, node_count};
 
-use certificate_reader::CertRefusal;
-use crate::Verdict;
+use crate::{CertRefusal, Verdict};
+use certificate_reader::Notes;
 use proof_core::{BadAt, Proof, Theory, check};
 
 /// The refusal of a node, whose place stands among those of its tree.
@@ -35,6 +35,16 @@ pub(crate) fn misfit(places: &[usize]) -> CertRefusal {
     match places.last() {
         Some(place) => CertRefusal::K4(*place as u64),
         None => CertRefusal::K4(0),
+    }
+}
+
+/// K3 where a name was noted that nothing has.
+pub(crate) fn check_names(notes: &Notes) -> Result<(), CertRefusal>
+    ensures { OnOk result (notes.now.unknown ≡ None) }
+{
+    match notes.unknown {
+        Some(place) => Err(CertRefusal::K3(place as u64)),
+        None => Ok(()),
     }
 }
 

@@ -27,9 +27,9 @@ pub fn verify(
 {
     let head = read_head(text)?;
     match head.value {
-        Kind::Orders => judge_orders(alloc, orders, periods, false, text, head.to),
-        Kind::SharedOrders => judge_orders(alloc, orders, periods, true, text, head.to),
-        Kind::Classes => judge_classes(alloc, types, due, text, head.to),
+        Kind::Orders => judge_orders(alloc, orders, periods.as_slice(), false, text, head.to),
+        Kind::SharedOrders => judge_orders(alloc, orders, periods.as_slice(), true, text, head.to),
+        Kind::Classes => judge_classes(alloc, types.as_slice(), due.as_slice(), text, head.to),
         Kind::Matrix => judge_matrix(alloc, orders, text, head.to),
     }
 }

@@ -123,12 +123,12 @@ fn class_line(
     second_tree: ClassProof,
 ) -> ClassLine
     ensures { result ≡ record {
-        first = triples.first;
-        second = triples.second;
-        first_class = classes.first;
-        second_class = classes.second;
-        first_tree = first_tree;
-        second_tree = second_tree;
+      first = triples.first;
+      second = triples.second;
+      first_class = classes.first;
+      second_class = classes.second;
+      first_tree = first_tree;
+      second_tree = second_tree;
     } }
 {
     ClassLine {

@@ -10,7 +10,7 @@ abbrev pub invariant-lines : goal.invariant-lines
 invariant-lines l = record {
   within : l.at ≤ length l.text;
   judged : l.judged ≤ length l.due;
-  shown : (lines : List ClassLine) × (IsRead l.text l.fn.from l.at (lines_text class_line_text lines) × (firsts lines ≡ take l.judged l.due) × AreTrueLines l.types lines)
+  shown : (lines : List ClassLine) × (IsRead l.text l.fn.from l.at (lines_text class_line_text lines) × (firsts lines ≡ take l.judged l.due) × AreTrueLines l.types lines);
 }
 
 abbrev pub decreases-lines : goal.decreases-lines

@@ -11,7 +11,7 @@ invariant-lines l = record {
   covers : AreCovers l.orders l.covers;
   count : length l.covers ≤ l.at;
   within : l.at ≤ length l.text;
-  shown : (lines : List MatrixLine) × (IsRead l.text l.fn.from l.at (lines_text matrix_line_text lines) × AreMatrixTrue l.orders lines)
+  shown : (lines : List MatrixLine) × (IsRead l.text l.fn.from l.at (lines_text matrix_line_text lines) × AreMatrixTrue l.orders lines);
 }
 
 abbrev pub decreases-lines : goal.decreases-lines

@@ -17,7 +17,7 @@ invariant-lines l = record {
   settled : IsSettled l.periods l.judge.next;
   same : l.judge.shared.theory.orders.now ≡ l.orders;
   judged : (lines : List OrderLine) × (IsRead l.text l.fn.from l.at (lines_text order_line_text lines)
-      × IsJudged l.orders l.periods l.judge.shared.kept l.judge.placings.items l.judge.next l.judge.cycled lines)
+      × IsJudged l.orders l.periods l.judge.shared.kept l.judge.placings.items l.judge.next l.judge.cycled lines);
 }
 
 abbrev pub decreases-lines : goal.decreases-lines
