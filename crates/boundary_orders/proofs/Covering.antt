@@ -82,16 +82,16 @@ pub record BothStand (triples : List (ℕ × Triple)) (s : Statement) : Type 0 w
   pub domain : stands triples s.domain ≡ true
   pub range : stands triples s.range ≡ true
 
-no_statement : (s : Statement) → None ≡ Some s → ⊥
+pub no_statement : (s : Statement) → None ≡ Some s → ⊥
 no_statement s e = let never : ⊥ = cc in never
 
-same_statement : (s u : Statement) → Some s ≡ Some u → s ≡ u
+pub same_statement : (s u : Statement) → Some s ≡ Some u → s ≡ u
 same_statement s u e = cc
 
-no_relation : (r : Relation) → None ≡ Some r → ⊥
+pub no_relation : (r : Relation) → None ≡ Some r → ⊥
 no_relation r e = let never : ⊥ = cc in never
 
-same_relation : (r u : Relation) → Some r ≡ Some u → r ≡ u
+pub same_relation : (r u : Relation) → Some r ≡ Some u → r ≡ u
 same_relation r u e = cc
 
 abbrev pub AreIn : List (ℕ × Triple) → Term → Term → Type 0
@@ -159,7 +159,7 @@ meaning_stands names triples t s hs ho e = by (makes_relation names t) e
     by true h = by_relation_stands triples (relation_of names triples t.s) s (relation_stands names triples t.s) h
     by false h = by_property_stands triples t (property_of names t.p) s hs ho h
 
-no_pair : (q : ℕ × Statement) → None ≡ Some q → ⊥
+pub no_pair : (q : ℕ × Statement) → None ≡ Some q → ⊥
 no_pair q e = let never : ⊥ = cc in never
 
 same_pair : (q u : ℕ × Statement) → Some q ≡ Some u → q ≡ u

@@ -13,7 +13,7 @@ use Rattle.crm_type_check.specs.declared.Fault.{Fault}
 use Rattle.boundary_orders.specs.Extents.{distinct, ends_in, rows_by, kind_of, standings_of, extents_of}
 use Rattle.boundary_orders.proofs.Covering.{all_given}
 
-ends_of_five : (a b c d e : Bool) → (a && b && c && d && e) ≡ true → (c ≡ true) × (e ≡ true)
+pub ends_of_five : (a b c d e : Bool) → (a && b && c && d && e) ≡ true → (c ≡ true) × (e ≡ true)
 ends_of_five true true true true true h = (refl, refl)
 ends_of_five true true true true false h = absurd (false≢true h)
 ends_of_five true true true false e h = absurd (false≢true h)

@@ -11,3 +11,4 @@ pub mod Counting
 pub mod Pointing
 pub mod Fitting
 pub mod Counted
+pub mod Dated

@@ -26,7 +26,7 @@ place_within {X} p (x ∷ xs) h = by (p x) h (place_within p xs)
     by true h rest = omega arith
     by false h rest = let l : position_or_len p xs < length xs = rest h in omega arith
 
-any_pieces : {X Y : Type 0} (test : Y → Bool) (f : X → List Y) (xs : List X) (k : ℕ) (d : X) → k < length xs →
+pub any_pieces : {X Y : Type 0} (test : Y → Bool) (f : X → List Y) (xs : List X) (k : ℕ) (d : X) → k < length xs →
     list_any test (f (get_or xs k d)) ≡ true → list_any test (flat_map f xs) ≡ true
 any_pieces test f [] k d l h = absurd (omega arith)
 any_pieces test f (x ∷ xs) zero d l h = list_any-append test (f x) (flat_map f xs) ∙ or_left (list_any test (f x)) (list_any test (flat_map f xs)) h
