@@ -93,17 +93,17 @@ prop_dated iri p e d = by (position (is_row (name_of iri)) rows) (position (is_i
     inverted : (n : ℕ) → n < length rows → is_inverse_row (name_of iri) (row_at n) ≡ true → (record { code = n; inverse = true }) ≡ p → IsDate p
     inverted n l passes same =
         let says : (is_date (row_at n).range ≡ true) × (not (is_some (row_at n).inverse) ≡ true)
-            = row_says n l (subst (λ (q : Prop). is_dated q.code ≡ true) (sym same) d) in
+        = row_says n l (subst (λ (q : Prop). is_dated q.code ≡ true) (sym same) d) in
         let known : is_some (row_at n).inverse ≡ true
-            = text_there (row_at n).inverse (name_of iri).text
-            (and_parts (same_space (row_at n).space (name_of iri).space) (is_text (row_at n).inverse (name_of iri).text) passes).1 in
+        = text_there (row_at n).inverse (name_of iri).text
+        (and_parts (same_space (row_at n).space (name_of iri).space) (is_text (row_at n).inverse (name_of iri).text) passes).1 in
         absurd (both_ways (is_some (row_at n).inverse) (not-true (is_some (row_at n).inverse) says.1) known)
 
     by : (a b : Option ℕ) → position (is_row (name_of iri)) rows ≡ a → position (is_inverse_row (name_of iri)) rows ≡ b → prop_in a b ≡ Some p → IsDate p
     by (Some n) b ea eb h = named n (position-Some (is_row (name_of iri)) rows n no_row ea).0 (same_prop (record { code = n; inverse = false }) p h)
     by None (Some n) ea eb h =
         let found : (n < length rows) × (is_inverse_row (name_of iri) (row_at n) ≡ true) × ((k : ℕ) → k < n → is_inverse_row (name_of iri) (get_or rows k no_row) ≡ false)
-            = position-Some (is_inverse_row (name_of iri)) rows n no_row eb in
+        = position-Some (is_inverse_row (name_of iri)) rows n no_row eb in
         inverted n found.0 found.1 (same_prop (record { code = n; inverse = true }) p h)
     by None None ea eb h = absurd (no_prop p h)
 
@@ -135,18 +135,19 @@ pub record IsClean (own : OwnFaults) : Type 0 where
   pub r3 : own.r3 ≡ false
   pub r4 : own.r4 ≡ None
 
+abbrev firsts : OwnFaults → List FaultKind
+firsts own = when own.c1 C1 ++ when own.c2 C2 ++ when own.c3 C3
+
+abbrev ends : OwnFaults → List FaultKind
+ends own = when own.d1 D1 ++ when own.r1 R1 ++ when own.r2 R2 ++ when own.r3 R3
+
 no_kinds : (own : OwnFaults) (a1 : Bool) → kinds own a1 ≡ [] → IsClean own
 no_kinds own a1 e =
-    let rest = nil_right (when own.c1 C1 ++ when own.c2 C2 ++ when own.c3 C3)
-        ((when own.d1 D1 ++ when own.r1 R1 ++ when own.r2 R2 ++ when own.r3 R3) ++ when_some own.r4 ++ when a1 A1) e in
-    let ends = nil_left (when own.d1 D1 ++ when own.r1 R1 ++ when own.r2 R2 ++ when own.r3 R3) (when_some own.r4 ++ when a1 A1) rest in
-    let dates = nil_right (when own.d1 D1 ++ when own.r1 R1 ++ when own.r2 R2 ++ when own.r3 R3) (when_some own.r4 ++ when a1 A1) rest in
+    let front = nil_left (firsts own ++ ends own ++ when_some own.r4) (when a1 A1) e in
+    let both = nil_left (firsts own ++ ends own) (when_some own.r4) front in
     record {
-      r3 = when_none own.r3 R3
-          (nil_right (when own.r2 R2) (when own.r3 R3)
-          (nil_right (when own.r1 R1) (when own.r2 R2 ++ when own.r3 R3)
-          (nil_right (when own.d1 D1) (when own.r1 R1 ++ when own.r2 R2 ++ when own.r3 R3) ends)));
-      r4 = when_no_date own.r4 (nil_left (when_some own.r4) (when a1 A1) dates);
+      r3 = when_none own.r3 R3 (nil_right (when own.d1 D1 ++ when own.r1 R1 ++ when own.r2 R2) (when own.r3 R3) (nil_right (firsts own) (ends own) both));
+      r4 = when_no_date own.r4 (nil_right (firsts own ++ ends own) (when_some own.r4) front);
     }
 
 -- no fault names a triple that has none
@@ -264,7 +265,7 @@ meaning_known names triples t s fit none e dated = by (makes_relation names t) e
     made p false is h = absurd (no_statement s h)
     made p true is h =
         let same : (record { code = p.code; domain = domain_end p t; range = range_end p t }) ≡ s
-            = same_statement (record { code = p.code; domain = domain_end p t; range = range_end p t }) s h in
+        = same_statement (record { code = p.code; domain = domain_end p t; range = range_end p t }) s h in
         let day : is_dated p.code ≡ true = ap (λ (u : Statement). is_dated u.code) same ∙ dated in
         subst (λ (u : Statement). is_some (instant_of names u) ≡ true) same
         (known_date names t p (property_dated names t.p p is day) day fit (subst (λ (o : Option Prop). has_r3 t o ≡ false) is clean.r3)
@@ -291,6 +292,6 @@ dates_known names triples fit =
     All-from_recursion (λ (s : ℕ × Statement). is_dated s.1.code ≡ true → is_some (instant_of names s.1) ≡ true) (statements_of names triples (faults_of names triples))
     (all_given (statement_of names triples (faults_of names triples)) (λ (s : ℕ × Statement). is_dated s.1.code ≡ true → is_some (instant_of names s.1) ≡ true) triples
     (λ k d l q e dated.
-        meaning_known names triples (get_or triples k d).1 q.1 (fit_at names triples fit k d l)
-        (kinds_none names triples k d l (stated_sound names triples (faults_of names triples) (get_or triples k d) q e))
-        (statement_comes names triples (faults_of names triples) (get_or triples k d) q e).meaning dated))
+    meaning_known names triples (get_or triples k d).1 q.1 (fit_at names triples fit k d l)
+    (kinds_none names triples k d l (stated_sound names triples (faults_of names triples) (get_or triples k d) q e))
+    (statement_comes names triples (faults_of names triples) (get_or triples k d) q e).meaning dated))
