@@ -1,0 +1,5 @@
+mod PrintedParts
+mod Listed
+mod Counts
+mod Rows
+mod ConsistentText
