@@ -1,9 +1,9 @@
 -- The five parts of the report of consistent orders, one after another.
-use Rattle.std.proofs.Common.{◌≡◌, ℕ, List, ◌++◌, Result, subst, sym, codes}
+use Rattle.std.proofs.Common.{◌≡◌, ℕ, List, ◌++◌, subst, codes}
 use Rattle.std.specs.Prelude.{Option}
 use Rattle.std.specs.List.{flat_map}
 use Rattle.crm_outside.specs.declared.printing.PrintFault.{PrintFault}
-use Rattle.crm_outside.specs.Printing.{Printed, Broken, Prints}
+use Rattle.crm_outside.specs.Printing.{Printed, Broken}
 use Rattle.crm_outside.proofs.PrintedTexts.{printed_then, broken_later, broken_front}
 use Rattle.order_core.specs.Sets.{Orders}
 use Rattle.order_texts.specs.Texts.{count_line}

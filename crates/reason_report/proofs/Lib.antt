@@ -3,3 +3,4 @@ mod Listed
 mod Counts
 mod Rows
 mod ConsistentText
+mod Points

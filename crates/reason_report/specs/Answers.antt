@@ -1,5 +1,5 @@
 -- What is printed of one primitive between two periods.
-use Rattle.std.specs.Prelude.{ℕ, Bool, List, [], ◌∷◌, ◌++◌, Option, None, Some, if◌then◌else◌, codes, slice_get}
+use Rattle.std.specs.Prelude.{ℕ, Bool, List, [], ◌++◌, Option, None, Some, if◌then◌else◌, codes, slice_get}
 use Rattle.std.specs.List.{flat_map}
 use Rattle.order_laws.specs.declared.Order.{Order}
 use Rattle.order_laws.specs.declared.Point.{Point}
@@ -60,9 +60,13 @@ verdict_text set a p b =
 abbrev pub answer_text : Orders → ℕ → Primitive → ℕ → List ℕ
 answer_text set a p b = text_by (cycle_of set) (verdict_text set a p b)
 
-abbrev pub verdict_by : Option (List ℕ) → Bool → Answer
-verdict_by (Some cycle) follows = Inconsistent
-verdict_by None follows = if follows then Holds else Fails
+-- whether it follows from orders that have no cycle
+abbrev pub verdict_of : List Order → ℕ → Primitive → ℕ → Answer
+verdict_of orders a p b = if is_following orders a p b then Holds else Fails
+
+abbrev pub answer_by : Option (List ℕ) → Answer → Answer
+answer_by None verdict = verdict
+answer_by (Some cycle) verdict = Inconsistent
 
 abbrev pub answer_of : Orders → ℕ → Primitive → ℕ → Answer
-answer_of set a p b = verdict_by (cycle_of set) (is_following set.list a p b)
+answer_of set a p b = answer_by (cycle_of set) (verdict_of set.list a p b)

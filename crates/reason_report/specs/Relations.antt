@@ -1,14 +1,12 @@
 -- The relations of periods that follow from a list of orders.
-use Rattle.std.specs.Prelude.{ℕ, ◌+◌, ◌==◌, ◌||◌, ◌&&◌, not, Bool, true, false, List, [], ◌∷◌, if◌then◌else◌}
-use Rattle.std.specs.List.{flat_map, sum_by, list_any}
+use Rattle.std.specs.Prelude.{ℕ, ◌==◌, true, false, List, [], ◌∷◌, if◌then◌else◌}
+use Rattle.std.specs.List.{flat_map, sum_by}
 use Rattle.order_laws.specs.declared.Order.{Order}
 use Rattle.order_laws.specs.declared.Point.{Point}
 use Rattle.order_laws.specs.declared.Point.TheVariants.{Start, End}
 use Rattle.order_laws.specs.declared.Reach.{Reach}
 use Rattle.order_laws.specs.declared.Reach.TheVariants.{None as Nothing, Le, Lt}
 use Rattle.order_laws.specs.Closure.{reach_between}
-use Rattle.order_core.specs.declared.primitives.Primitive.{Primitive}
-use Rattle.order_core.specs.declared.primitives.Primitive.TheVariants.{P173, P174, P175, P176, P182, P183, P184, P185}
 use Rattle.reason_report.specs.declared.sides.Side.{Side}
 use Rattle.reason_report.specs.declared.sides.Relation.{Relation}
 use Rattle.reason_report.specs.declared.sides.Side.TheVariants.{StartEnd, StartStart, EndStart, EndEnd}

@@ -9,7 +9,9 @@ mod delays;
 mod relations;
 mod report;
 mod sides;
+#[cfg(test)]
+mod tests;
 
-pub use answers::Answer;
+pub use answers::{Answer, print_answer};
 pub use report::{print_inconsistent, print_reason};
 pub use sides::{Relation, Side};
