@@ -4,3 +4,7 @@ mod Counts
 mod Rows
 mod ConsistentText
 mod Points
+mod Membership
+mod Listings
+mod Broken
+mod Standing

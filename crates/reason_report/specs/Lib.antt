@@ -2,3 +2,4 @@ pub mod Subjects
 pub mod Relations
 pub mod Reason
 pub mod Answers
+pub mod Listings

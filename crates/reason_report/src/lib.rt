@@ -6,6 +6,7 @@ mod answers;
 mod basis;
 mod counting;
 mod delays;
+pub mod laws;
 mod relations;
 mod report;
 mod sides;
