@@ -1,6 +1,6 @@
 -- A reading goes on with a character, and begins anew behind a token.
 use Rattle.std.proofs.Common.{ℕ, zero, suc, List, [], ◌∷◌, ◌++◌, ◌≡◌, ◌<◌, ◌≤◌, ◌+◌, ◌-◌, length, take, drop, refl, ap, sym, ◌∙◌, arith, subst, append_assoc, length-append}
-use Rattle.std.proofs.Math.Seq.{take-length}
+use Rattle.std.proofs.Math.Seq.{take-length, take-add}
 use Rattle.std.proofs.lemmas.List.{length-drop, take-append-le, drop-append-le, take_rest}
 use Rattle.std.specs.Prelude.{Bool, true, false, cond, ◌&&◌, ◌==◌, is_some}
 use Rattle.std.specs.Char.{len_utf8}
@@ -16,10 +16,10 @@ use Rattle.turtle_tokens.proofs.Leading.{ruled_more, front_final, front_whole, f
 use Rattle.turtle_tokens.specs.declared.cutter.Place.{Place}
 use Rattle.turtle_tokens.specs.declared.cutter.Place.TheVariants.{Between}
 use Rattle.turtle_tokens.specs.Fronts.{read_from, front_of, start, found, token_of, ruled, three_marks, IsWithin, IsCut, IsInside}
-use Rattle.turtle_tokens.specs.Cutting.{IsReading, Leads}
+use Rattle.turtle_tokens.specs.Cutting.{IsReading, Leads, IsRead, IsNarrow}
 use Rattle.turtle_tokens.specs.Items.{items, behind, gap_at, by_gap, by_front, front_items, items_of, TokenFirst, Kept}
 use Rattle.turtle_tokens.specs.Widths.{width}
-use Rattle.turtle_tokens.proofs.Widths.{width_push, width_split}
+use Rattle.turtle_tokens.proofs.Widths.{width_split, width-append}
 
 drop_all : (n : ℕ) (a : List ℕ) → length a ≤ n → drop n a ≡ []
 drop_all zero [] h = refl
@@ -165,6 +165,63 @@ ruled_cut (Token k m) text n h = by_kind k m h
     str false m h = h
 
     by_kind : (k : TokenKind) (m : ℕ) → IsCut (Token k m) n → IsCut (ruled (Token k m) text) n
+    by_kind kind.Str m h = str (is_some (three_marks text) && m == 2) m h
+    by_kind kind.IriRef m h = h
+    by_kind kind.PnameNs m h = h
+    by_kind kind.PnameLn m h = h
+    by_kind kind.Blank m h = h
+    by_kind kind.AtWord m h = h
+    by_kind kind.Integer m h = h
+    by_kind kind.Decimal m h = h
+    by_kind kind.Double m h = h
+    by_kind kind.A m h = h
+    by_kind kind.True m h = h
+    by_kind kind.False m h = h
+    by_kind kind.Prefix m h = h
+    by_kind kind.Base m h = h
+    by_kind kind.Dot m h = h
+    by_kind kind.Semicolon m h = h
+    by_kind kind.Comma m h = h
+    by_kind kind.OpenSquare m h = h
+    by_kind kind.CloseSquare m h = h
+    by_kind kind.OpenRound m h = h
+    by_kind kind.CloseRound m h = h
+    by_kind kind.Carets m h = h
+
+width_prefix : (n m : ℕ) (text : List ℕ) → n ≤ m → width (take n text) ≤ width (take m text)
+width_prefix zero m text h = omega arith
+width_prefix (suc n) zero text h = absurd (omega (arith, h))
+width_prefix (suc n) (suc m) [] h = omega arith
+width_prefix (suc n) (suc m) (c ∷ cs) h = let e : width (take n cs) ≤ width (take m cs) = width_prefix n m cs (omega (arith, h)) in omega (arith, e)
+
+cut_narrow : (f : Front) (n : ℕ) (chars : List ℕ) → IsCut f n → width (take n chars) ≤ 65536 → IsNarrow f chars
+cut_narrow Nothing n chars cut h = tt
+cut_narrow Long n chars cut h = tt
+cut_narrow (Token k m) n chars cut h = let w : width (take m chars) ≤ width (take n chars) = width_prefix m n chars cut.1 in omega (arith, w, h)
+
+pub narrow_slice : (chars : List ℕ) (q : Reading) (f : Front) → IsReading chars q → q.count ≡ length chars → IsCut f q.count → IsNarrow f chars
+narrow_slice chars q f is all cut = cut_narrow f q.count chars cut (let w = is.width in omega (arith, w, is.narrow))
+
+pub narrow_ended : (xs ys : List ℕ) (from : ℕ) (r : Reading) (f : Front) → xs ≡ ys → IsReading (drop from ys) r → IsRead f r.count r.width (unread xs from r.count) → IsNarrow f (drop from ys)
+narrow_ended xs ys from r f e is read =
+    let u = unread_is xs ys from r.count e in
+    let chars = drop from ys in
+    let split : take (r.count + read.some) chars ≡ take r.count chars ++ take read.some (drop r.count chars) = take-add r.count read.some chars in
+    let wide : width (take (r.count + read.some) chars) ≡ r.width + width (take read.some (unread xs from r.count)) =
+    ap width split ∙ width-append (take r.count chars) (take read.some (drop r.count chars))
+    ∙ ap (λ w. w + width (take read.some (drop r.count chars))) (sym is.width) ∙ ap (λ x. r.width + width (take read.some x)) (sym u) in
+    cut_narrow f (r.count + read.some) chars read.cut (omega (arith, wide, read.narrow))
+
+pub ruled_narrow : (f : Front) (text chars : List ℕ) → IsNarrow f chars → IsNarrow (ruled f text) chars
+ruled_narrow Nothing text chars h = tt
+ruled_narrow Long text chars h = tt
+ruled_narrow (Token k m) text chars h = by_kind k m h
+  where
+    str : (b : Bool) (m : ℕ) → IsNarrow (Token kind.Str m) chars → IsNarrow (cond b Nothing (Token kind.Str m)) chars
+    str true m h = tt
+    str false m h = h
+
+    by_kind : (k : TokenKind) (m : ℕ) → IsNarrow (Token k m) chars → IsNarrow (ruled (Token k m) text) chars
     by_kind kind.Str m h = str (is_some (three_marks text) && m == 2) m h
     by_kind kind.IriRef m h = h
     by_kind kind.PnameNs m h = h

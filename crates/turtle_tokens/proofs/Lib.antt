@@ -4,3 +4,4 @@ pub mod Tested
 pub mod Widths
 pub mod Leading
 pub mod Keeping
+pub mod Right

@@ -6,6 +6,7 @@ ghost use Rattle.turtle_tokens.specs.Items as spec;
 ghost use Rattle.turtle_tokens.specs.Machine.{turtle};
 ghost use Rattle.turtle_tokens.specs.Widths.{width};
 ghost use Rattle.turtle_tokens.specs.Widths.{width as spec_width};
+ghost use Rattle.turtle_tokens.specs.Cutting.{IsNarrow};
 ghost use Rattle.turtle_tokens.specs.Fronts.{IsCut, ruled, token_of, three_marks, is_quote};
 
 use crate::front::{Reading, Stepped, read_on, start};
@@ -93,7 +94,8 @@ fn is_quote(c: char) -> bool
     c == '"' || c == '\''
 }
 
-fn begin_three_marks(chars: &[char]) -> bool
+/// Whether three equal quote marks begin the characters.
+pub fn begin_three_marks(chars: &[char]) -> bool
     ensures { result ≡ is_some (three_marks chars.now) }
 {
     chars.len() >= 3 && is_quote(chars[0]) && chars[1] == chars[0] && chars[2] == chars[0]
@@ -197,6 +199,7 @@ impl Cutter {
         ensures same { self.new ≡ self.old }
         ensures token { IfSome result (λ f. (more : List ℕ) → (whole ≡ true → more ≡ []) → token_of (self.new.chars ++ more) ≡ ruled f self.new.chars) }
         ensures cut { IfSome result (λ f. IsCut f (length self.new.chars)) }
+        ensures least { IfSome result (λ f. IsNarrow f self.new.chars) }
         ensures none { IfNone result (whole ≡ false) }
         ensures open { IfNone result (IsOpen turtle self.new.chars) }
         ensures narrow { IfNone result (width self.new.chars ≤ 65536) }
@@ -223,6 +226,7 @@ impl Cutter {
         ensures front { IfSome result (λ f. (more : List ℕ) → (whole ≡ true → more ≡ [])
             → spec.items_of self.new more ≡ spec.front_items f (self.new.chars ++ more) self.new.at) }
         ensures cut { IfSome result (λ f. IsCut f (length self.new.chars)) }
+        ensures least { IfSome result (λ f. IsNarrow f self.new.chars) }
         ensures some { IfSome result (λ f. 0 < length self.new.chars) }
         ensures shorter { length self.new.chars ≤ length self.old.chars }
         ensures place { self.new.at + width self.new.chars ≡ self.old.at + width self.old.chars }

@@ -1,7 +1,7 @@
 // The token at the front of a text, a character at a time.
 ghost use Rattle.std.specs.Prelude.{◌≡◌, ℕ, ◌+◌, ◌<◌, ◌≤◌, ◌^◌, ◌++◌, List, [], ◌∷◌, length};
 ghost use Rattle.text_patterns.specs.Machines.{last_after};
-ghost use Rattle.turtle_tokens.specs.Cutting.{Leads};
+ghost use Rattle.turtle_tokens.specs.Cutting.{Leads, IsRead};
 ghost use Rattle.turtle_tokens.specs.Fronts as spec;
 ghost use Rattle.turtle_tokens.specs.Widths as widths;
 
@@ -119,6 +119,7 @@ pub(crate) fn read_on(chars: &[char], from: Reading) -> Stepped
     requires last { spec.IsWithin from.last from.count }
     ensures reads { (more : List ℕ) → spec.read_from from (chars.now ++ more) ≡ spec.reads result more }
     ensures ended { spec.InFront result (λ f. spec.IsInside f (from.count + length chars.now)) }
+    ensures narrow { spec.InFront result (λ f. IsRead f from.count from.width chars.now) }
     ensures leads { spec.InReading result (λ r. (done : List ℕ) → Leads from.state done → Leads r.state (done ++ chars.now)) }
     ensures bounds { spec.InReading result (λ r. (r.width ≤ 65536) × (r.count ≡ from.count + length chars.now) × (r.width ≡ from.width + widths.width chars.now) × spec.IsWithin r.last r.count) }
 {

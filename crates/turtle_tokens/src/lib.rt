@@ -7,6 +7,6 @@ mod kinds;
 mod states;
 mod table;
 
-pub use cutter::{Cutter, Place};
+pub use cutter::{Cutter, Place, begin_three_marks};
 pub use front::Front;
 pub use kinds::TokenKind;

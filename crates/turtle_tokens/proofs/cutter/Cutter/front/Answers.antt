@@ -4,10 +4,11 @@ use Rattle.text_patterns.specs.Machines.{IsOpen}
 use Rattle.turtle_tokens.specs.Machine.{turtle}
 use Rattle.turtle_tokens.specs.Widths.{width}
 use Rattle.turtle_tokens.specs.Fronts.{IsCut, ruled}
+use Rattle.turtle_tokens.specs.Cutting.{IsNarrow}
 use Rattle.turtle_tokens.specs.Items.{front_items, TokenFirst}
 use Rattle.turtle_tokens.proofs.Widths.{length_width}
 use Rattle.turtle_tokens.proofs.Leading.{open_start}
-use Rattle.turtle_tokens.proofs.Keeping.{token_first, slice_is, none_left, ruled_cut}
+use Rattle.turtle_tokens.proofs.Keeping.{token_first, slice_is, none_left, ruled_cut, ruled_narrow}
 use Rattle.turtle_tokens.proofs.cutter.Cutter.front.Goals as goal
 
 pub returns-then-self-len-clause-open : goal.returns-then-self-len-clause-open
@@ -35,3 +36,10 @@ returns-clause-cut c =
     let ruled_is : c.ruled.result ≡ ruled c.in_ok-front.front k.chars =
     c.ruled.ensures ∙ ap (ruled c.in_ok-front.front) (slice_is c.deref.result.now c.self-2.inside.chars.items c.self-2.inside.from c.deref.ensures.value ∙ ap (λ v. v.chars) c.self-2.view_is) in
     subst (λ f. IsCut f (length k.chars)) (sym ruled_is) (ruled_cut c.in_ok-front.front k.chars (length k.chars) c.in_ok-front.ensures.cut)
+
+pub returns-clause-least : goal.returns-clause-least
+returns-clause-least c =
+    let k = c.read.new.self in
+    let ruled_is : c.ruled.result ≡ ruled c.in_ok-front.front k.chars =
+    c.ruled.ensures ∙ ap (ruled c.in_ok-front.front) (slice_is c.deref.result.now c.self-2.inside.chars.items c.self-2.inside.from c.deref.ensures.value ∙ ap (λ v. v.chars) c.self-2.view_is) in
+    subst (λ f. IsNarrow f k.chars) (sym ruled_is) (ruled_narrow c.in_ok-front.front k.chars k.chars c.in_ok-front.ensures.least)

@@ -1,9 +1,9 @@
 use Rattle.std.proofs.Common.{sym, ◌++◌, ◌+◌, ◌≡◌, ap, ◌∙◌, drop, length, subst}
 use Rattle.std.specs.Prelude.{List, ℕ, true}
-use Rattle.turtle_tokens.specs.Cutting.{IsReading}
+use Rattle.turtle_tokens.specs.Cutting.{IsNarrow}
 use Rattle.turtle_tokens.specs.Fronts.{token_of, ruled}
 use Rattle.turtle_tokens.proofs.Leading.{open_at}
-use Rattle.turtle_tokens.proofs.Keeping.{read_slice, ended_slice, final_slice, whole_slice, narrow_at}
+use Rattle.turtle_tokens.proofs.Keeping.{read_slice, ended_slice, final_slice, whole_slice, narrow_at, narrow_slice, narrow_ended}
 use Rattle.turtle_tokens.proofs.cutter.Cutter.read.Goals as goal
 
 pub invariant_of-self : goal.invariant_of-self
@@ -57,3 +57,20 @@ returns-in-Ended-clause-token c = λ more whole.
     subst (λ v. token_of (v.chars ++ more) ≡ ruled c.in-Ended.front v.chars) c.self.view_is
     (ended_slice c.deref.result.now c.self.inside.chars.items c.self.inside.from c.self.inside.reading c.in-Ended.front
     c.deref.ensures.value c.self.invariant.1 c.in-Ended.ensures.reads c.in-Ended.ensures.ended more)
+
+pub returns-then-whole-clause-least : goal.returns-then-whole-clause-least
+returns-then-whole-clause-least c =
+    let read = read_slice c.deref.result.now c.self.inside.chars.items c.self.inside.from c.self.inside.reading c.in-On.reading
+    c.deref.ensures.value c.self.invariant.1 c.in-On.ensures.reads c.in-On.ensures.bounds c.in-On.ensures.leads in
+    narrow_slice (drop c.self.inside.from c.self.inside.chars.items) c.in-On.reading c.ended.result read.0 read.1 c.ended.ensures.cut
+
+pub returns-then-is_final-clause-least : goal.returns-then-is_final-clause-least
+returns-then-is_final-clause-least c =
+    let read = read_slice c.deref.result.now c.self.inside.chars.items c.self.inside.from c.self.inside.reading c.in-On.reading
+    c.deref.ensures.value c.self.invariant.1 c.in-On.ensures.reads c.in-On.ensures.bounds c.in-On.ensures.leads in
+    narrow_slice (drop c.self.inside.from c.self.inside.chars.items) c.in-On.reading c.ended-then-is_final.result read.0 read.1 c.ended-then-is_final.ensures.cut
+
+pub returns-in-Ended-clause-least : goal.returns-in-Ended-clause-least
+returns-in-Ended-clause-least c =
+    subst (λ v. IsNarrow c.in-Ended.front v.chars) c.self.view_is
+    (narrow_ended c.deref.result.now c.self.inside.chars.items c.self.inside.from c.self.inside.reading c.in-Ended.front c.deref.ensures.value c.self.invariant.1 c.in-Ended.ensures.narrow)
