@@ -3,6 +3,7 @@
 
 mod lexer;
 mod token;
+mod values;
 
 pub use lexer::Lexer;
 pub use token::{Next, Token};
