@@ -1,13 +1,13 @@
 -- What a byte does to what is ahead.
-use Rattle.std.proofs.Common.{ℕ, List, [], ◌∷◌, ◌++◌, ◌≡◌, refl, ap, sym, ◌∙◌, subst, append_assoc, take, drop, arith, ◌+◌, ◌<◌, ◌≤◌}
+use Rattle.std.proofs.Common.{ℕ, List, [], ◌∷◌, ◌++◌, ◌≡◌, refl, ap, sym, ◌∙◌, subst, append_assoc, take, drop, arith, ◌+◌, ◌<◌}
 use Rattle.std.proofs.Math.Seq.{take-add}
 use Rattle.std.proofs.lemmas.Bool.{true≢false}
 use Rattle.std.proofs.lemmas.Str.{len_utf8_bounds}
 use Rattle.std.specs.Char.{len_utf8}
 use Rattle.std.specs.Str.{IsUtf8}
-use Rattle.std.specs.Prelude.{Bool, true, false, cond, Option, None, Some, Result, Ok, Err, is_some, is_err, OnOk, ◌^◌}
+use Rattle.std.specs.Prelude.{Bool, true, false, Option, None, Some, Result, Ok, Err, is_some, is_err, OnOk, OnErr, ◌^◌}
 use Rattle.rdf_chars.specs.Steps.{Fed, fed, said}
-use Rattle.rdf_chars.specs.Utf8.{IsChars, BeginsUtf8, Pushes}
+use Rattle.rdf_chars.specs.Utf8.{BeginsUtf8, Pushes}
 use Rattle.rdf_chars.specs.declared.utf8.BadUtf8.{BadUtf8}
 use Rattle.rdf_chars.specs.Decoding.{Decoded, decoded, by_said, before}
 use Rattle.rdf_chars.specs.Decoding.Decoded.{Chars, BadAt}
@@ -113,12 +113,11 @@ knows_ok (Some at) finished v w b (Some c) f s e k = λ more whole.
 pub knows_err : (finished : Bool) (v w : Fed) (b : ℕ) (x : BadUtf8) → said v b ≡ Err x → w ≡ fed v b → Knows (Some x.at) finished w
 knows_err finished v w b x s e = λ more whole. ap (λ d. decoded d more) e ∙ stays_bad v b x more s
 
-pub room_pushed : (starved : Bool) (k n : Kept) (v w : Fed) (c : ℕ) → starved ≡ false → HasRoom starved k v → n ≡ record k { chars = k.chars ++ c ∷ [] } → w.count ≡ v.count + 1 → v.count + 1 < 2 ^ 32 → HasRoom starved n w
-room_pushed starved k n v w c s h e count small =
-    let room = subst (λ b. HasRoom b k v) s h in
+pub room_pushed : (k n : Kept) (v w : Fed) (c : ℕ) → HasRoom k v → n ≡ record k { chars = k.chars ++ c ∷ [] } → w.count ≡ v.count + 1 → v.count + 1 < 2 ^ 32 → HasRoom n w
+room_pushed k n v w c room e count small =
     let wide : width (k.chars ++ c ∷ []) ≡ width k.chars + len_utf8 c = width_push k.chars c in
     let more : n.at + width n.chars ≡ k.at + width (k.chars ++ c ∷ []) = ap (λ x. x.at + width x.chars) e in
-    subst (λ b. HasRoom b n w) (sym s) (omega (arith, room.0, wide, more, count, (len_utf8_bounds c).1), omega (arith, count, small))
+    (omega (arith, room.0, wide, more, count, (len_utf8_bounds c).1), omega (arith, count, small))
 
 pub emptied_none : (o : Option Refusal) (k : Kept) → is_some o ≡ false → IsEmptied o k
 emptied_none None k e = tt
@@ -128,13 +127,15 @@ pub on_ok_by : {A E : Type 0} (r : Result A E) (X : Type 0) → is_err r ≡ fal
 on_ok_by (Ok x) X e h = h
 on_ok_by (Err x) X e h = absurd (true≢false e)
 
-pub room_same : (starved : Bool) (k : Kept) (v w : Fed) → starved ≡ false → HasRoom starved k v → w.count ≡ v.count + 1 → v.count + 1 < 2 ^ 32 → HasRoom starved k w
-room_same starved k v w s h count small =
-    let room = subst (λ b. HasRoom b k v) s h in
-    subst (λ b. HasRoom b k w) (sym s) (omega (arith, room.0, count), omega (arith, count, small))
+pub room_same : (k : Kept) (v w : Fed) → HasRoom k v → w.count ≡ v.count + 1 → v.count + 1 < 2 ^ 32 → HasRoom k w
+room_same k v w room count small = (omega (arith, room.0, count), omega (arith, count, small))
 
 pub byte_more : (xs : List ℕ) (i b : ℕ) → drop i xs ≡ b ∷ drop (i + 1) xs → take (i + 1) xs ≡ take i xs ++ b ∷ []
 byte_more xs i b e = take-add i 1 xs ∙ ap (λ x. take i xs ++ take 1 x) e
 
 pub byte_fed : (l : Lexing) (bytes xs : List ℕ) (i b : ℕ) → drop i xs ≡ b ∷ drop (i + 1) xs → IsFed l ((bytes ++ take i xs) ++ b ∷ []) → IsFed l (bytes ++ take (i + 1) xs)
 byte_fed l bytes xs i b e f = subst (IsFed l) (append_assoc bytes (take i xs) (b ∷ []) ∙ ap (λ x. bytes ++ x) (sym (byte_more xs i b e))) f
+
+pub on_err_by : {A E : Type 0} (r : Result A E) (X : Type 0) → is_err r ≡ true → OnErr r X → X
+on_err_by (Ok x) X e h = absurd (true≢false (sym e))
+on_err_by (Err x) X e h = h

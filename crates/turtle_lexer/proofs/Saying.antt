@@ -1,17 +1,16 @@
 -- What is said of what stands at the front.
-use Rattle.std.proofs.Common.{ℕ, zero, suc, List, [], ◌∷◌, ◌++◌, ◌≡◌, ◌<◌, ◌≤◌, ◌+◌, ◌⊎◌, inl, inr, length, take, refl, ap, sym, ◌∙◌, subst, arith}
+use Rattle.std.proofs.Common.{ℕ, List, [], ◌∷◌, ◌++◌, ◌≡◌, ◌<◌, ◌≤◌, ◌+◌, ◌⊎◌, length, take, refl, ap, sym, ◌∙◌, subst, arith}
 use Rattle.std.proofs.lemmas.List.{take-append-le}
-use Rattle.std.specs.Prelude.{Bool, true, false, cond, Option, None, Some, Ok, Err}
+use Rattle.std.specs.Prelude.{Bool, true, false, cond, None, Some, Ok, Err}
 use Rattle.rdf_chars.specs.Steps.{Fed, ended, is_idle}
 use Rattle.rdf_chars.specs.Decoding.{Decoded, decoded, by_ended}
 use Rattle.rdf_chars.specs.Decoding.Decoded.{Chars, BadAt}
 use Rattle.rdf_terms.specs.declared.terms.Code.TheVariants.{U1, G1, L2}
 use Rattle.rdf_terms.specs.declared.terms.Refusal.{Refusal}
 use Rattle.turtle_tokens.specs.declared.kinds.TokenKind.{TokenKind}
-use Rattle.turtle_tokens.specs.declared.front.Front.{Front}
 use Rattle.turtle_tokens.specs.declared.front.Front.TheVariants.{Token as FrontToken, Nothing, Long}
 use Rattle.turtle_tokens.specs.Widths.{width}
-use Rattle.turtle_tokens.specs.Items.{Kept, Items, items, items_of, front_items, behind}
+use Rattle.turtle_tokens.specs.Items.{Kept, items, items_of, front_items, behind}
 use Rattle.turtle_lexer.specs.declared.token.Token.{Token}
 use Rattle.turtle_lexer.specs.declared.token.Next.{Next}
 use Rattle.turtle_lexer.specs.declared.token.Next.TheVariants as next
@@ -105,5 +104,9 @@ bad_says old new at n e said empty none bad known =
     let P : Type 0 = Whatever old.finished (λ more. IsStop r (ahead old more)) in
     let Q : ℕ → Type 0 = λ at. Whatever old.finished (λ more. ahead old more ≡ NotUtf8 at) in
     let known_at = subst (λ b. Knows b old.finished old.fed) bad known in
-    subst (Says old new) (sym e) (said, empty, subst (λ o. Still o r (Unless old.bad r P Q)) (sym none) (subst (λ o. Unless o r P Q) (sym bad)
-    (refl, λ more whole. ap (λ d. by_chars d (λ chars. stopped old.refusal (stream (items_of old.kept chars)))) (known_at more whole))))
+    subst (Says old new) (sym e) (
+      said,
+      empty,
+      subst (λ o. Still o r (Unless old.bad r P Q)) (sym none) (subst (λ o. Unless o r P Q) (sym bad)
+          (refl, λ more whole. ap (λ d. by_chars d (λ chars. stopped old.refusal (stream (items_of old.kept chars)))) (known_at more whole))),
+    )

@@ -1,5 +1,5 @@
 -- A lexer by what it keeps, and what it says.
-use Rattle.std.specs.Prelude.{ℕ, ◌≡◌, ◌+◌, ◌*◌, ◌≤◌, ◌<◌, ◌^◌, ◌⊎◌, Bool, true, false, cond, List, [], Option, None, Some, Ok, ⊤}
+use Rattle.std.specs.Prelude.{ℕ, ◌≡◌, ◌+◌, ◌*◌, ◌≤◌, ◌<◌, ◌^◌, ◌⊎◌, Bool, true, false, List, [], Option, None, Some, Ok, ⊤}
 use Rattle.text_patterns.specs.Machines.{IsOpen}
 use Rattle.std.specs.Str.{IsUtf8}
 use Rattle.rdf_chars.specs.Utf8.{BeginsUtf8, IsUtf8Length}
@@ -19,10 +19,11 @@ use Rattle.turtle_lexer.specs.Streams.{Stream, stream, Ahead, by_chars}
 use Rattle.turtle_lexer.specs.Streams.Stream.{Ends, NoToken, Overlong, Given}
 use Rattle.turtle_lexer.specs.Streams.Ahead.{NotUtf8, Tokens}
 
--- `kept` is what was fed and not given, but for a character that has begun.
+-- `kept` is what was fed and not given, but for a character that has begun, of which so many bytes came.
 pub record Lexing : Type 0 where
   pub fed : Fed
   pub kept : Kept
+  pub begun : ℕ
   pub bad : Option ℕ
   pub finished : Bool
   pub refusal : Option Refusal
@@ -87,10 +88,9 @@ Says old new next.End = (old.refusal ≡ None) × (new.refusal ≡ None) × (old
 Says old new (next.Refused r) = (new.refusal ≡ Some r) × (new.kept.chars ≡ [])
     × Still old.refusal r (Unless (old.bad) r (Whatever old.finished (λ more. IsStop r (ahead old more))) (λ at. Whatever old.finished (λ more. ahead old more ≡ NotUtf8 at)))
 
--- the place of the open token is within four bytes for each that was fed; nothing is known behind want of memory
-abbrev pub HasRoom : Bool → Kept → Fed → Type 0
-HasRoom true k v = ⊤
-HasRoom false k v = (k.at + width k.chars ≤ 4 * v.count) × (v.count < 2 ^ 32)
+-- the place of the open token is within four bytes for each that was fed
+abbrev pub HasRoom : Kept → Fed → Type 0
+HasRoom k v = (k.at + width k.chars ≤ 4 * v.count) × (v.count < 2 ^ 32)
 
 -- after a refusal nothing is kept
 abbrev pub IsEmptied : Option Refusal → Kept → Type 0

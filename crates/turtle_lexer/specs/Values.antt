@@ -1,5 +1,5 @@
 -- What the characters of a token stand for.
-use Rattle.std.specs.Prelude.{ℕ, List, [], ◌∷◌, ◌++◌, ◌+◌, ◌*◌, ◌-◌, ◌==◌, nat_le, nat_lt, cond, Bool, true, false, is_some, take, drop, length}
+use Rattle.std.specs.Prelude.{ℕ, List, [], ◌∷◌, ◌+◌, ◌*◌, ◌-◌, ◌==◌, nat_le, nat_lt, cond, is_some, take, drop, length}
 use Rattle.std.specs.Char.{digit_value}
 use lib.Utf8.{scalar, encodes}
 use Rattle.turtle_tokens.specs.declared.kinds.TokenKind.{TokenKind}

@@ -24,6 +24,7 @@ pub struct Lexer {
     steps: Utf8Steps,
     bad: Option<u64>,
     cutter: Cutter,
+    begun: u8,
     value: String,
     finished: bool,
     refusal: Option<Refusal>,
@@ -31,14 +32,14 @@ pub struct Lexer {
 }
 
 impl Model for Lexer {
-    ghost use Rattle.std.specs.Prelude.{◌≡◌};
+    ghost use Rattle.std.specs.Prelude.{◌≡◌, ◌≤◌};
     ghost use Rattle.turtle_lexer.specs.Lexing.{Lexing, HasRoom, IsEmptied, Knows};
 
     ghost Value = { Lexing };
 
-    ghost view = { λ l. record { fed = l.steps; kept = l.cutter; bad = l.bad; finished = l.finished; refusal = l.refusal; starved = l.starved } };
+    ghost view = { λ l. record { fed = l.steps; kept = l.cutter; begun = l.begun; bad = l.bad; finished = l.finished; refusal = l.refusal; starved = l.starved } };
 
-    ghost invariant = { λ l. HasRoom l.starved l.cutter l.steps × IsEmptied l.refusal l.cutter × Knows l.bad l.finished l.steps };
+    ghost invariant = { λ l. HasRoom l.cutter l.steps × IsEmptied l.refusal l.cutter × (l.begun ≤ 3) × Knows l.bad l.finished l.steps };
 }
 
 impl Lexer {
@@ -56,6 +57,7 @@ impl Lexer {
             steps: Utf8Steps::new(),
             bad: None,
             cutter: Cutter::new(alloc),
+            begun: 0,
             value: String::new(alloc),
             finished: false,
             refusal: None,
@@ -78,6 +80,7 @@ impl Lexer {
     {
         match self.steps.push(byte) {
             Ok(Some(c)) => {
+                self.begun = 0;
                 if self.refusal.is_some() {
                     return Ok(());
                 }
@@ -87,8 +90,12 @@ impl Lexer {
                 }
                 Ok(())
             }
-            Ok(None) => Ok(()),
+            Ok(None) => {
+                self.begun = (self.begun + 1).min(3);
+                Ok(())
+            }
             Err(bad) => {
+                self.begun = 0;
                 self.bad = Some(bad.at);
                 Ok(())
             }
@@ -234,5 +241,13 @@ impl Lexer {
         ensures fed { (bytes : List ℕ) → spec.IsFed self.now bytes → spec.IsBad self.now.finished bytes result }
     {
         self.bad
+    }
+
+    /// How many bytes the characters take that are held and were not given, with those of a character that has begun: at most 65,539
+    /// where `next` has answered `More`.
+    pub fn kept(&self) -> u32
+        ensures { width self.now.kept.chars < 2 ^ 31 → result ≡ width self.now.kept.chars + self.now.begun }
+    {
+        u32::try_from(self.cutter.width() + u64::from(self.begun)).unwrap_or(u32::MAX)
     }
 }

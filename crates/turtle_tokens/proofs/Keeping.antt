@@ -9,7 +9,6 @@ use Rattle.turtle_tokens.specs.declared.front.Front.{Front}
 use Rattle.turtle_tokens.specs.declared.front.Front.TheVariants.{Token, Nothing, Long}
 use Rattle.turtle_tokens.specs.declared.kinds.TokenKind.{TokenKind}
 use Rattle.turtle_tokens.specs.declared.kinds.TokenKind.TheVariants as kind
-use Rattle.turtle_tokens.specs.declared.cutter.Gap.{Gap}
 use Rattle.turtle_tokens.specs.declared.cutter.Gap.TheVariants as gap
 use Rattle.turtle_tokens.specs.Steps.{is_final}
 use Rattle.turtle_tokens.proofs.Leading.{ruled_more, front_final, front_whole, final_ruled}

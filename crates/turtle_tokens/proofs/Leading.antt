@@ -5,14 +5,14 @@ use Rattle.std.proofs.lemmas.Bool.{false≢true, and_parts, eqb-true}
 use Rattle.std.specs.Prelude.{Bool, true, false, cond, ◌&&◌, ◌||◌, ◌==◌, nat_lt, Option, None, Some, is_some, is_none, slice_index_or}
 use Rattle.std.specs.Char.{len_utf8}
 use Rattle.text_patterns.specs.Patterns.{Matches}
-use Rattle.text_patterns.specs.Derivatives.{after, nullable}
+use Rattle.text_patterns.specs.Derivatives.{after}
 use Rattle.text_patterns.specs.Machines.{Spells, IsOpen, rest_after}
 use Rattle.text_patterns.proofs.Derivatives.{nullable-gives, after-gives}
 use Rattle.text_patterns.proofs.Spans.{all_below}
 use Rattle.turtle_tokens.specs.Terminals.{spelling}
 use Rattle.turtle_tokens.specs.Machine.{turtle}
-use Rattle.turtle_tokens.specs.Steps.{next, entry, is_final, class_at, row_of, column_of}
-use Rattle.turtle_tokens.specs.Fronts.{read_from, front_of, found, to, step, by_state, goes, InReading, IsCut, IsInside, IsWithin, ruled, three_marks, is_quote}
+use Rattle.turtle_tokens.specs.Steps.{next, entry, is_final, class_at, row_of}
+use Rattle.turtle_tokens.specs.Fronts.{read_from, front_of, found, to, by_state, goes, InReading, IsInside, IsWithin, ruled, three_marks, is_quote}
 use Rattle.turtle_tokens.specs.Cutting.{IsReading, Leads}
 use Rattle.turtle_tokens.specs.declared.table.TheConstants.{FINAL}
 use Rattle.turtle_tokens.specs.declared.kinds.TokenKind.{TokenKind}

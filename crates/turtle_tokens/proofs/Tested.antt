@@ -1,5 +1,5 @@
 -- The tests of the table pass, so it is a machine.
-use Rattle.std.proofs.Common.{ℕ, List, [], ◌≡◌, refl, ap, sym, ◌∙◌}
+use Rattle.std.proofs.Common.{ℕ, [], ◌≡◌, refl, ap, sym, ◌∙◌}
 use Rattle.std.specs.Prelude.{Bool, true, cond, ◌&&◌, ◌||◌, nat_lt, length, get_or, slice_index, slice_index_or, false}
 use mathlib.Core.Bool.{beq}
 use Rattle.text_patterns.specs.Derivatives.{nullable, derivative, after, alike, is_shut}

@@ -1,5 +1,5 @@
 -- The machine that reads the terminals, as a table of classes of characters.
-use Rattle.std.specs.Prelude.{ℕ, List, [], get_or}
+use Rattle.std.specs.Prelude.{ℕ, [], get_or}
 use Rattle.text_patterns.specs.Machines.{Machine}
 use Rattle.text_patterns.specs.Tables.{Table, machine}
 use Rattle.turtle_tokens.specs.Terminals.{spelling}

@@ -1,5 +1,5 @@
 -- The machine: what a character of a class does to a state. Numbers beyond the last are read as 0.
-use Rattle.std.specs.Prelude.{ℕ, List, [], ◌∷◌, ◌==◌, ◌-◌, Bool, true, false, Option, None, Some, cond, nat_lt, slice_index, slice_index_or}
+use Rattle.std.specs.Prelude.{ℕ, List, [], ◌∷◌, ◌==◌, ◌-◌, Bool, false, Option, None, Some, cond, nat_lt, slice_index, slice_index_or}
 use Rattle.text_patterns.specs.Patterns.{within}
 use Rattle.rdf_chars.specs.Sets.{pn_chars_base, pn_chars}
 use Rattle.turtle_tokens.specs.declared.kinds.TokenKind.{TokenKind}

@@ -1,5 +1,5 @@
 -- The terminals of Turtle, as the standard spells them.
-use Rattle.std.specs.Prelude.{ℕ, ◌+◌, ◌-◌, List, [], ◌∷◌, ◌++◌}
+use Rattle.std.specs.Prelude.{ℕ, ◌+◌, ◌-◌, [], ◌∷◌, ◌++◌}
 use Rattle.rdf_chars.specs.Sets.{pn_chars_base, pn_chars_u, pn_chars}
 use Rattle.text_patterns.specs.Patterns.{Pattern, ◌then◌, ◌or◌, char, optional, some_of}
 use Rattle.text_patterns.specs.Patterns.Pattern.{One, Many}

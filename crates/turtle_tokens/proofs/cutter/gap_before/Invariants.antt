@@ -1,4 +1,4 @@
-use Rattle.std.proofs.Common.{◌≡◌, ◌+◌, ◌≤◌, ◌++◌, List, ℕ, drop}
+use Rattle.std.proofs.Common.{◌≡◌, ◌+◌, ◌++◌, List, ℕ, drop}
 use Rattle.turtle_tokens.specs.Items as spec
 use Rattle.turtle_tokens.specs.Widths.{width}
 use Rattle.turtle_tokens.proofs.cutter.gap_before.Given as goal

@@ -1,5 +1,4 @@
-use Rattle.std.proofs.Common.{◌≡◌, ◌+◌, ◌≤◌, take, drop, length, arith, subst, ap, sym}
-use Rattle.turtle_tokens.specs.Widths.{width}
+use Rattle.std.proofs.Common.{arith, subst}
 use Rattle.turtle_tokens.specs.Fronts.{IsCut}
 use Rattle.turtle_tokens.proofs.Widths.{width_split}
 use Rattle.turtle_tokens.proofs.front.read_on.Goals as goal

@@ -1,4 +1,4 @@
-use Rattle.std.proofs.Common.{ℕ, List, ◌≡◌, ◌+◌, ◌∷◌, ◌++◌, drop, take, get_or, arith, ap, sym, ◌∙◌}
+use Rattle.std.proofs.Common.{◌≡◌, ◌+◌, ◌∷◌, ◌++◌, drop, take, get_or, arith, ap, sym, ◌∙◌}
 use Rattle.std.proofs.lemmas.List.{drop_more}
 use Rattle.turtle_lexer.specs.Lexing.{ahead}
 use Rattle.turtle_lexer.proofs.Feeding.{byte_fed}
@@ -10,8 +10,7 @@ loop-byte-preserved c =
     let before = c.loop-byte.invariant in
     let i = c.loop-byte.byte-index in
     let xs = c.args.piece.now in
-    let next : drop i xs ≡ get_or xs i 0 ∷ drop (i + 1) xs = drop_more xs i 0 c.loop-byte-test.true in
-    (
+    let next : drop i xs ≡ get_or xs i 0 ∷ drop (i + 1) xs = drop_more xs i 0 c.loop-byte-test.true in (
       taken.starved,
       taken.finished,
       taken.refusal ∙ before.2,

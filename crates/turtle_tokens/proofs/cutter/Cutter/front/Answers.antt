@@ -1,8 +1,7 @@
-use Rattle.std.proofs.Common.{ℕ, List, [], ◌≡◌, ◌<◌, ◌++◌, drop, length, arith, ap, sym, ◌∙◌, subst}
+use Rattle.std.proofs.Common.{[], ◌≡◌, ◌<◌, ◌++◌, drop, length, arith, ap, sym, ◌∙◌, subst}
 use Rattle.std.proofs.lemmas.List.{length-drop}
 use Rattle.text_patterns.specs.Machines.{IsOpen}
 use Rattle.turtle_tokens.specs.Machine.{turtle}
-use Rattle.turtle_tokens.specs.Widths.{width}
 use Rattle.turtle_tokens.specs.Fronts.{IsCut, ruled}
 use Rattle.turtle_tokens.specs.Cutting.{IsNarrow}
 use Rattle.turtle_tokens.specs.Items.{front_items, TokenFirst}

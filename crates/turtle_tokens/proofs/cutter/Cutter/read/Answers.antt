@@ -1,5 +1,4 @@
-use Rattle.std.proofs.Common.{sym, ◌++◌, ◌+◌, ◌≡◌, ap, ◌∙◌, drop, length, subst}
-use Rattle.std.specs.Prelude.{List, ℕ, true}
+use Rattle.std.proofs.Common.{sym, ◌++◌, ◌≡◌, ◌∙◌, drop, subst}
 use Rattle.turtle_tokens.specs.Cutting.{IsNarrow}
 use Rattle.turtle_tokens.specs.Fronts.{token_of, ruled}
 use Rattle.turtle_tokens.proofs.Leading.{open_at}
