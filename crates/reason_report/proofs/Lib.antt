@@ -1,0 +1,6 @@
+mod PrintedParts
+mod Listed
+mod Counts
+mod Rows
+mod ConsistentText
+mod Points

@@ -1,0 +1,4 @@
+pub mod Subjects
+pub mod Relations
+pub mod Reason
+pub mod Answers
