@@ -1,6 +1,7 @@
 -- The dates and the orders.
 use Rattle.std.specs.Prelude.{ℕ, ℤ, ◌&&◌, Bool, true, false, cond, not, Option, Some, None, Result, Ok, Err, List, [], ◌∷◌, map, flat_map, length, int_lt, slice_index_or}
 use Rattle.std.specs.List.{position_or_len, filter_map, fold}
+use Rattle.std.specs.Option.{option_map}
 use Rattle.std.specs.Ordering.{int_cmp}
 use Rattle.std.specs.BTreeSet.{insert_key}
 use Rattle.rdf_terms.specs.declared.terms.Term.{Term}
@@ -112,18 +113,22 @@ extent_number extents node = position_or_len (λ e. same_term node e.0) extents
 abbrev pub same_instant : ℤ → ℤ → Bool
 same_instant a b = not (int_lt a b) && not (int_lt b a)
 
-abbrev pub date_number : List ℤ → Option ℤ → ℕ
-date_number dates None = length dates
-date_number dates (Some t) = position_or_len (same_instant t) dates
+-- the number of a date among ascending ones
+abbrev pub date_number : List ℤ → ℤ → ℕ
+date_number dates t = position_or_len (same_instant t) dates
 
--- the number of the extent at the range, or of the date
-abbrev pub range_number : NameLists → List (Term × Bool) → List ℤ → Statement → ℕ
-range_number names extents dates s = cond (is_dated s.code) (date_number dates (instant_of names s)) (extent_number extents s.range)
+-- the number of the extent at the range, or of the date; a triple without fault has its date
+abbrev pub range_number : NameLists → List (Term × Bool) → List ℤ → Statement → Option ℕ
+range_number names extents dates s =
+    cond (is_dated s.code) (option_map (date_number dates) (instant_of names s)) (Some (extent_number extents s.range))
+
+abbrev pub orders_with : ℕ × Statement → ℕ → Option ℕ → List Order
+orders_with s domain None = []
+orders_with s domain (Some range) = map (order_by s.0 domain range) (rules_of s.1.code)
 
 -- the orders of a statement in their sequence
 abbrev pub orders_by : NameLists → List (Term × Bool) → List ℤ → ℕ × Statement → List Order
-orders_by names extents dates s =
-    map (order_by s.0 (extent_number extents s.1.domain) (range_number names extents dates s.1)) (rules_of s.1.code)
+orders_by names extents dates s = orders_with s (extent_number extents s.1.domain) (range_number names extents dates s.1)
 
 abbrev pub statement_orders : NameLists → List (Term × Bool) → List ℤ → List (ℕ × Statement) → List Order
 statement_orders names extents dates statements = flat_map (orders_by names extents dates) statements

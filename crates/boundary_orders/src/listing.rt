@@ -1,18 +1,19 @@
-// The orders of a statement, by the numbers of extents and dates.
-ghost use Rattle.std.specs.Prelude.{◌≡◌, ◌≤◌, ◌++◌, length, IfSome, OnOk, IsOkUnless};
+// The orders of statements, by the numbers of extents and dates.
+ghost use Rattle.std.specs.Prelude.{◌≡◌, ◌≤◌, ◌++◌, length, IfOk, IfSome, OnOk, IsOkUnless};
 ghost use Rattle.std.specs.List.Sorted.{IsStrictlySortedBy};
 ghost use Rattle.std.specs.Ordering.{int_cmp};
 ghost use Rattle.boundary_orders.specs.declared.faults.BuildFault.{BuildFault};
 ghost use Rattle.boundary_orders.specs.Orders as spec;
-ghost use Rattle.boundary_orders.specs.Orders.{orders_by};
+ghost use Rattle.boundary_orders.specs.Orders.{orders_by, statement_orders};
 
 use crate::dates::{date_in, date_number};
 use crate::extents::ExtentTable;
 use crate::faults::BuildFault;
 use crate::orders::push_orders;
-use crate::statements::{Statement, is_date};
+use crate::statements::{Statement, StatementList, is_date};
 use order_core::OrderList;
 use rdf_terms::{Names, Term};
+use std::alloc::Global;
 
 #[tactic(auto, using(crate::proofs::Finding::number_found))]
 fn extent_number(extents: &ExtentTable, node: Term) -> Option<u32>
@@ -31,18 +32,25 @@ fn range_number(
     extents: &ExtentTable,
     dates: &[i128],
     statement: &Statement,
-) -> Option<u32>
+) -> Result<Option<u32>, BuildFault>
     requires few { length extents.now.entries ≤ 2048 }
     requires ascending { IsStrictlySortedBy int_cmp dates.now }
     requires few_dates { length dates.now ≤ 2048 }
-    ensures { IfSome result (λ k. k ≡ spec.range_number names.now extents.now.entries dates.now statement.now) }
+    ensures ok { IfOk result (λ k. k ≡ spec.range_number names.now extents.now.entries dates.now statement.now) }
+    ensures memory { IsOkUnless result BuildFault.Memory }
 {
     if !is_date(statement.code) {
-        return extent_number(extents, statement.range);
+        return match extent_number(extents, statement.range) {
+            Some(k) => Ok(Some(k)),
+            None => Err(BuildFault::Memory),
+        };
     }
-    match date_in(names, statement) {
-        Some(date) => date_number(dates, &date),
-        None => None,
+    let Some(date) = date_in(names, statement) else {
+        return Ok(None);
+    };
+    match date_number(dates, &date) {
+        Some(k) => Ok(Some(k)),
+        None => Err(BuildFault::Memory),
     }
 }
 
@@ -63,9 +71,30 @@ pub fn list_statement(
     let Some(domain) = extent_number(extents, statement.1.domain) else {
         return Err(BuildFault::Memory);
     };
-    let Some(range) = range_number(names, extents, dates, &statement.1) else {
-        return Err(BuildFault::Memory);
+    let Some(range) = range_number(names, extents, dates, &statement.1)? else {
+        return Ok(());
     };
     push_orders(list, statement.0, statement.1.code, domain, range)?;
     Ok(())
+}
+
+/// The orders of the statements.
+pub fn list_orders(
+    alloc: Global,
+    names: &Names,
+    extents: &ExtentTable,
+    dates: &[i128],
+    statements: &StatementList,
+) -> Result<OrderList, BuildFault>
+    requires few { length extents.now.entries ≤ 2048 }
+    requires ascending { IsStrictlySortedBy int_cmp dates.now }
+    requires few_dates { length dates.now ≤ 2048 }
+    ensures ok { IfOk result (λ list. list ≡ statement_orders names.now extents.now.entries dates.now statements.now) }
+    ensures memory { IsOkUnless result BuildFault.Memory }
+{
+    let mut list = OrderList::new(alloc);
+    for statement in statements.as_slice() {
+        list_statement(&mut list, names, extents, dates, statement)?;
+    }
+    Ok(list)
 }
