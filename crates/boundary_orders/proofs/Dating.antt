@@ -1,20 +1,32 @@
 -- Dates in their order.
-use Rattle.std.proofs.Common.{ℕ, zero, suc, ℤ, ◌≡◌, ◌<◌, ◌+◌, ◌&&◌, ◌++◌, Bool, true, false, cond, not, Option, List, [], ◌∷◌, get_or, length, refl, sym, ap, ◌∙◌, arith, subst}
+use Rattle.std.proofs.Common.{ℕ, zero, suc, ℤ, ◌≡◌, ◌<◌, ◌+◌, ◌&&◌, Bool, true, false, cond, not, Option, List, [], ◌∷◌, get_or, length, take, refl, sym, ap, ◌∙◌, arith, subst}
 use Rattle.std.specs.Prelude.{int_lt}
-use Rattle.std.specs.List.{filter_map, fold, position_or_len, AllByRecursion}
+use Rattle.std.specs.List.{filter_map, fold, cons_option, position_or_len, AllByRecursion}
 use Rattle.std.specs.List.Sorted.{IsStrictlySortedBy}
 use Rattle.std.specs.Ordering.{int_cmp}
+use Rattle.std.specs.BTreeSet.{insert_key}
 use Rattle.std.specs.declared.cmp.Ordering.TheVariants.{Less, Equal, Greater}
 use Rattle.std.proofs.lemmas.List.Elements.{filter_map-append}
 use Rattle.std.proofs.lemmas.List.Sums.{fold-append}
 use Rattle.std.proofs.lemmas.Map.Lookups.{exact_signed}
-use Rattle.boundary_orders.specs.Orders.{same_instant}
+use Rattle.rdf_terms.specs.Naming.{NameLists}
+use Rattle.boundary_orders.specs.declared.statements.Statement.{Statement}
+use Rattle.boundary_orders.specs.Orders.{instant_of, dates_of, same_instant}
+use Rattle.boundary_orders.proofs.Growing.{take_grow}
 
-pub filter_map_more : {X Y : Type 0} (h : X → Option Y) (xs ys : List X) → filter_map h (xs ++ ys) ≡ filter_map h xs ++ filter_map h ys
-filter_map_more h xs ys = filter_map-append h xs ys
-
-pub fold_more : {A B : Type 0} (f : B → A → B) (b : B) (xs ys : List A) → fold f b (xs ++ ys) ≡ fold f (fold f b xs) ys
-fold_more f b xs ys = fold-append f b xs ys
+-- the date of one statement more
+pub dates_grow : (names : NameLists) (rs ss : List (ℕ × Statement)) (i : ℕ) (d : ℕ × Statement) (old new : List ℤ) → rs ≡ ss → i < length rs →
+    old ≡ dates_of names (take i ss) → new ≡ fold (insert_key int_cmp) old (cons_option (instant_of names (get_or rs i d).1) []) →
+    new ≡ dates_of names (take (i + 1) ss)
+dates_grow names rs ss i d old new e l before after =
+    after
+    ∙ ap (λ (ds : List ℤ). fold (insert_key int_cmp) ds (filter_map date (get_or rs i d ∷ []))) before
+    ∙ sym (fold-append (insert_key int_cmp) [] (filter_map date (take i ss)) (filter_map date (get_or rs i d ∷ [])))
+    ∙ ap (fold (insert_key int_cmp) []) (sym (filter_map-append date (take i ss) (get_or rs i d ∷ [])))
+    ∙ ap (dates_of names) (take_grow rs ss i d e l)
+  where
+    date : ℕ × Statement → Option ℤ
+    date s = instant_of names s.1
 
 equal_same : (p q : Bool) → cond p Less (cond q Greater Equal) ≡ Equal → (not q && not p) ≡ true
 equal_same true q e = let never : ⊥ = cc in absurd never

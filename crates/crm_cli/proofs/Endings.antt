@@ -4,7 +4,7 @@ use Rattle.std.specs.Prelude.{IfSome, ◌⊎◌, nat_lt}
 use Rattle.std.proofs.lemmas.Bool.Decides.{nat_tests}
 use Rattle.crm_outside.specs.Causes.{Rose}
 use Rattle.crm_outside.specs.Shelves.{Files, held, Gives, IsTooLong}
-use Rattle.ntriples_reader.specs.Reading.{records_of}
+use Rattle.ntriples_reader.specs.Feeding.{answer}
 use Rattle.rdf_terms.specs.declared.terms.Term.{Term}
 use Rattle.rdf_terms.specs.Naming.{NameLists}
 use Rattle.order_laws.specs.declared.Order.{Order}
@@ -14,10 +14,10 @@ use Rattle.crm_cli.specs.declared.words.Command.{Command}
 use Rattle.crm_cli.specs.declared.orders.OrdersFault.{OrdersFault}
 use Rattle.crm_cli.specs.declared.orders.OrdersFault.TheVariants.{NoStatement, Memory as Starved}
 use Rattle.crm_cli.specs.Outcomes.{Outcome, IsComplete, Faulted, FaultOutcome}
-use Rattle.crm_cli.specs.Report.{Report, records_report, refused, file_report, bytes_report, read_fault_report, usage_report, command_report, orders_report}
+use Rattle.crm_cli.specs.Report.{Report, answer_report, refused, file_report, bytes_report, read_fault_report, usage_report, command_report, orders_report}
 use Rattle.crm_cli.specs.Stops.{Stops}
 
-short_report : (bytes : List ℕ) → length bytes ≤ 67108864 → bytes_report bytes ≡ records_report (records_of bytes)
+short_report : (bytes : List ℕ) → length bytes ≤ 67108864 → bytes_report bytes ≡ answer_report (answer bytes)
 unfolding bytes_report
 short_report bytes le = let low : nat_lt 67108864 (length bytes) ≡ false = grind (arith, nat_tests) in rw low refl
 
@@ -36,7 +36,7 @@ module _ {S : Type 0} (written : S → Option (List ℕ)) (faults sure : S → �
   missing None h p = p
   missing (Some bytes) h p = absurd (true≢false h)
 
-  pub read_whole : (o : Option Files) (bytes : List ℕ) → Gives o name bytes → length bytes ≤ 67108864 → Ends (records_report (records_of bytes)) → IfSome o (λ files. Ends (file_report name (files name)))
+  pub read_whole : (o : Option Files) (bytes : List ℕ) → Gives o name bytes → length bytes ≤ 67108864 → Ends (answer_report (answer bytes)) → IfSome o (λ files. Ends (file_report name (files name)))
   read_whole None bytes h le p = tt
   read_whole (Some f) bytes h le p = at_file f bytes _ h (short_report bytes le) p
 

@@ -1,9 +1,11 @@
 -- The texts of a report.
-use Rattle.std.specs.Prelude.{ℕ, Bool, List, [], ◌∷◌, ◌++◌, length, if◌then◌else◌, codes, unwrap_or}
+use Rattle.std.specs.Prelude.{ℕ, Bool, List, ◌∷◌, ◌++◌, length, if◌then◌else◌, codes}
 use Rattle.std.specs.Fmt.{decimal}
 use Rattle.rdf_terms.specs.declared.terms.Term.{Term}
 use Rattle.rdf_terms.specs.Naming.{NameLists}
-use Rattle.rdf_terms.specs.Fitting.{iri_of}
+use Rattle.rdf_terms.specs.declared.terms.Code.{Code}
+use Rattle.rdf_terms.specs.declared.terms.Code.TheVariants.{U1, G1, G2, G3, G4, G5, G6, L1, L2, L3, L4, L5, L6, L7, L8, L9}
+use Rattle.ntriples_writer.specs.Lines.{term_text}
 use Rattle.order_laws.specs.declared.Point.{Point}
 use Rattle.order_laws.specs.declared.Point.TheVariants.{Start, End, Date}
 use Rattle.order_laws.specs.declared.By.{By}
@@ -11,9 +13,23 @@ use Rattle.order_laws.specs.declared.By.TheVariants.{Triple, Extent, Dates}
 use Rattle.order_laws.specs.declared.Order.{Order}
 use Rattle.crm_outside.specs.Printing.{lines_from}
 
--- the IRI of a term
-abbrev pub term_name : NameLists → Term → List ℕ
-term_name names t = unwrap_or (iri_of names t) []
+abbrev pub code_name : Code → List ℕ
+code_name U1 = codes "U1"
+code_name G1 = codes "G1"
+code_name G2 = codes "G2"
+code_name G3 = codes "G3"
+code_name G4 = codes "G4"
+code_name G5 = codes "G5"
+code_name G6 = codes "G6"
+code_name L1 = codes "L1"
+code_name L2 = codes "L2"
+code_name L3 = codes "L3"
+code_name L4 = codes "L4"
+code_name L5 = codes "L5"
+code_name L6 = codes "L6"
+code_name L7 = codes "L7"
+code_name L8 = codes "L8"
+code_name L9 = codes "L9"
 
 -- `s`, `e` or `d`, and the number
 abbrev pub point_text : Point → List ℕ
@@ -37,7 +53,7 @@ order_line n o =
 
 -- the line of an extent with its number
 unfoldable pub extent_line : NameLists → ℕ → Term → List ℕ
-extent_line names k t = codes "x" ++ (decimal k ++ (codes " period <" ++ (term_name names t ++ codes ">\n")))
+extent_line names k t = codes "x" ++ (decimal k ++ (codes " period " ++ (term_text names t ++ codes "\n")))
 
 -- a word and a number
 unfoldable pub count_line : List ℕ → ℕ → List ℕ

@@ -2,9 +2,9 @@
 ghost use Rattle.std.specs.Prelude.{◌≡◌, IfOk, string_bytes};
 ghost use Rattle.crm_cli.specs.Texts as spec;
 
-use crate::statements::iri_of;
+use ntriples_writer::append_term;
 use order_core::{By, Order, Point};
-use rdf_terms::{Names, Term};
+use rdf_terms::{Code, Names, Term};
 use std::alloc::{AllocError, Global};
 
 // A point by its letter and its number.
@@ -56,6 +56,30 @@ pub fn read_fault_line(alloc: Global, name: &str) -> Result<String, AllocError>
     format!(in alloc; "read fault {name}\n")
 }
 
+/// A code as it is printed.
+pub fn code_name(code: Code) -> &'static str
+    ensures { result.now ≡ spec.code_name code }
+{
+    match code {
+        Code::U1 => "U1",
+        Code::G1 => "G1",
+        Code::G2 => "G2",
+        Code::G3 => "G3",
+        Code::G4 => "G4",
+        Code::G5 => "G5",
+        Code::G6 => "G6",
+        Code::L1 => "L1",
+        Code::L2 => "L2",
+        Code::L3 => "L3",
+        Code::L4 => "L4",
+        Code::L5 => "L5",
+        Code::L6 => "L6",
+        Code::L7 => "L7",
+        Code::L8 => "L8",
+        Code::L9 => "L9",
+    }
+}
+
 /// The line of a refusal.
 pub fn refusal_line(alloc: Global, code: &str, at: u64) -> Result<String, AllocError>
     ensures { IfOk result (λ s. string_bytes s ≡ spec.refusal_text code.now at) }
@@ -65,18 +89,12 @@ pub fn refusal_line(alloc: Global, code: &str, at: u64) -> Result<String, AllocE
 
 /// The line of an extent.
 #[tactic(auto, unfolding(crate::specs::Texts::extent_line))]
-pub fn extent_line(alloc: Global, names: &Names, k: u32, t: Term) -> Result<String, AllocError>
-    ensures { IfOk result (λ s. string_bytes s ≡ spec.extent_line names.now k t) }
+pub fn extent_line(alloc: Global, names: &Names, k: u32, t: Term) -> Result<Vec<u8>, AllocError>
+    ensures { IfOk result (λ s. s.items ≡ spec.extent_line names.now k t) }
 {
-    let name = term_name(names, t);
-    format!(in alloc; "x{k} period <{name}>\n")
-}
-
-fn term_name(names: &Names, t: Term) -> &str
-    ensures { result.now ≡ spec.term_name names.now t }
-{
-    match iri_of(names, t) {
-        Some(name) => name,
-        None => "",
-    }
+    let head = format!(in alloc; "x{k} period ")?;
+    let mut line = head.as_bytes().to_vec(alloc)?;
+    append_term(names, t, &mut line)?;
+    line.push(b'\n')?;
+    Ok(line)
 }

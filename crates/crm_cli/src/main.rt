@@ -1,5 +1,5 @@
-//! A temporal reasoner over CIDOC CRM records: reads plain lines of N-Triples that state the eight temporal primitives, and
-//! prints the orders between the starts and the ends of their periods.
+//! A temporal reasoner over CIDOC CRM records: reads N-Triples that state the eight temporal primitives, and prints the
+//! orders between the starts and the ends of their periods.
 #![tactic(auto)]
 
 mod extents;

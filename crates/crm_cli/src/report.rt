@@ -33,7 +33,7 @@ fn print_extents<W: Sink>(
         let Ok(line) = extent_line(alloc, names, k, t) else {
             return Err(PrintFault::Memory);
         };
-        print_text(out, line.as_bytes())?;
+        print_text(out, line.as_slice())?;
     }
     Ok(())
 }

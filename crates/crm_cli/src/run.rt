@@ -1,16 +1,17 @@
 // The top call.
-ghost use Rattle.std.specs.Prelude.{◌≡◌, ◌⊎◌, ◌^◌, ◌<◌, ◌≤◌, length, IfSome, Some, None, true, map, string_bytes, Ok, IfOk, IfErr};
+ghost use Rattle.std.specs.Prelude.{◌≡◌, ◌⊎◌, ◌^◌, ◌<◌, ◌≤◌, length, IfSome, Some, None, true, map, string_bytes, IfOk, IfErr};
 ghost use Rattle.crm_outside.specs.Causes.{Rose};
 ghost use Rattle.crm_outside.specs.Printing.{Printed};
-ghost use Rattle.ntriples_reader.specs.Reading.{records_of};
-ghost use Rattle.ntriples_reader.specs.Refusing.{Refuses};
+ghost use Rattle.ntriples_reader.specs.Answers.{IsRefusal};
+ghost use Rattle.ntriples_reader.specs.Answers.Answer.{Read};
+ghost use Rattle.ntriples_reader.specs.Feeding.{answer};
 ghost use Rattle.crm_cli.specs.Outcomes.{Outcome, IsComplete, Faulted, FaultOutcome};
 ghost use Rattle.crm_cli.specs.Texts.{read_fault_text};
 ghost use Rattle.crm_cli.specs.Words.{command_of};
-ghost use Rattle.crm_cli.specs.Report.{records_report, refused, file_report, read_fault_report, usage_report, report, command_report};
+ghost use Rattle.crm_cli.specs.Report.{answer_report, refused, file_report, read_fault_report, usage_report, report, command_report};
 
 use crate::extents::ends_of;
-use crate::lines::{read_fault_line, refusal_line};
+use crate::lines::{code_name, read_fault_line, refusal_line};
 use crate::orders::{OrdersFault, add_extent_orders, statement_orders};
 use crate::report::print_orders;
 use crate::status::Status;
@@ -57,8 +58,8 @@ fn print_read_fault<W: Sink>(alloc: Global, file: &str, out: &mut W) -> Status
 // The records of the bytes.
 fn read(alloc: Global, bytes: &[u8]) -> Result<Records, ReadRefusal>
     requires { length bytes.now < 2 ^ 32 }
-    ensures ok { IfOk result (λ r. records_of bytes.now ≡ Ok r) }
-    ensures refused { IfErr result (λ e. Refuses e bytes.now) }
+    ensures ok { IfOk result (λ r. answer bytes.now ≡ Read r) }
+    ensures refused { IfErr result (λ e. IsRefusal e (answer bytes.now)) }
 {
     let Ok(mut reader) = NtReader::new(alloc) else {
         return Err(ReadRefusal::Memory);
@@ -81,7 +82,7 @@ fn print_fault<W: Sink>(alloc: Global, fault: OrdersFault, out: &mut W) -> Statu
 
 // Prints what the records say.
 fn print_records<W: Sink>(alloc: Global, records: &Records, out: &mut W) -> Status
-    ensures { Outcome W.written W.faults W.sure out.old out.new (records_report (Ok records.now)) result }
+    ensures { Outcome W.written W.faults W.sure out.old out.new (answer_report (Read records.now)) result }
 {
     let names = &records.names;
     let Ok(extents) = ends_of(alloc, &records.triples) else {
@@ -104,11 +105,16 @@ fn print_records<W: Sink>(alloc: Global, records: &Records, out: &mut W) -> Stat
 // Prints what the bytes of a file say.
 fn print_bytes<W: Sink>(alloc: Global, bytes: &[u8], out: &mut W) -> Status
     requires { length bytes.now < 2 ^ 32 }
-    ensures { Outcome W.written W.faults W.sure out.old out.new (records_report (records_of bytes.now)) result }
+    ensures { Outcome W.written W.faults W.sure out.old out.new (answer_report (answer bytes.now)) result }
 {
     match read(alloc, bytes) {
         Ok(records) => print_records(alloc, &records, out),
-        Err(ReadRefusal::Refused(refusal)) => print_refusal(alloc, "N1", refusal.at, out),
+        Err(ReadRefusal::Refused(refusal)) => print_refusal(
+            alloc,
+            code_name(refusal.code),
+            refusal.at,
+            out,
+        ),
         Err(ReadRefusal::Memory) => Status::Memory,
     }
 }

@@ -17,6 +17,11 @@ const ORDERS: &str =
 const LABELLED_ORDERS: &str =
     "extents 1\nx0 period <http://e/a>\ndates 0\norders 2\no0 e0 <= s0 t0\no1 s0 < e0 x0\n";
 
+const KINDS: &str = "# a comment\n_:z <http://www.cidoc-crm.org/cidoc-crm/P175> \"a\"@en .";
+
+const KINDS_ORDERS: &str =
+    "extents 2\nx0 period _:b0\nx1 period \"a\"@en\ndates 0\norders 3\no0 s0 <= s1 t0\no1 s0 < e0 x0\no2 s1 < e1 x1\n";
+
 // What a run on the file `a.nt` ends with and prints, where the sink has this room.
 fn outcome(
     alloc: Global,
@@ -47,30 +52,14 @@ fn prints_the_report_of_a_file(rt: HostRuntime) -> Result<(), Fail> {
         (PLAIN, Status::Done, ORDERS),
         (LABELLED, Status::Done, LABELLED_ORDERS),
         ("", Status::Done, "extents 0\ndates 0\norders 0\n"),
-        (broken.as_str(), Status::Refused, "refused N1 at 70\n"),
+        (KINDS, Status::Done, KINDS_ORDERS),
+        (broken.as_str(), Status::Refused, "refused G1 at 70\n"),
         (OTHER, Status::Refused, "refused N2 at 53\n"),
     ] {
         let (ended, printed) = outcome(alloc, &["orders", "a.nt"], file, 4096)?;
         assert_eq!(rt; ended, status);
         assert_eq!(rt; printed.as_slice(), text.as_bytes());
     }
-    Ok(())
-}
-
-#[test]
-fn takes_256_lines(rt: HostRuntime) -> Result<(), Fail> {
-    let alloc = rt.alloc();
-    let mut lines = String::new(alloc);
-    for _ in 0..256 {
-        lines.push_str(PLAIN)?;
-    }
-    let (ended, printed) = outcome(alloc, &["orders", "a.nt"], lines.as_str(), 4096)?;
-    assert_eq!(rt; ended, Status::Done);
-    assert_eq!(rt; printed.as_slice(), ORDERS.as_bytes());
-    lines.push_str(PLAIN)?;
-    let (ended, printed) = outcome(alloc, &["orders", "a.nt"], lines.as_str(), 4096)?;
-    assert_eq!(rt; ended, Status::Refused);
-    assert_eq!(rt; printed.as_slice(), b"refused N1 at 17920\n".as_slice());
     Ok(())
 }
 

@@ -7,7 +7,6 @@ use Rattle.rdf_terms.specs.declared.terms.Term.TheVariants.{Iri, Blank, Lit}
 use Rattle.rdf_terms.specs.declared.terms.Triple.{Triple}
 use Rattle.rdf_terms.specs.declared.terms.Literal.{Literal}
 use Rattle.rdf_terms.specs.Naming.{NameLists}
-use Rattle.rdf_terms.specs.Fitting.{is_among}
 
 -- The letter that stands behind a backslash for a quotation mark, a backslash, a line feed and a carriage return.
 abbrev pub escape_letter : ℕ → Option ℕ
@@ -51,9 +50,3 @@ term_text names (Lit n) = literal_or_none (slice_get names.literals n)
 -- Subject, predicate and object with a space behind each, a full stop and a line feed.
 unfoldable pub canonical_line : NameLists → Triple → List ℕ
 canonical_line names t = term_text names t.s ++ (codes " " ++ (term_text names t.p ++ (codes " " ++ (term_text names t.o ++ codes " .\n"))))
-
--- Each IRI and each literal of the triple is among the names.
-pub record AreNamed (names : NameLists) (t : Triple) : Type 0 where
-  pub subject : is_among names t.s ≡ true
-  pub predicate : is_among names t.p ≡ true
-  pub object : is_among names t.o ≡ true

@@ -5,4 +5,4 @@ mod lines;
 #[cfg(test)]
 mod tests;
 
-pub use lines::{WriteRefusal, text_of, write_triple};
+pub use lines::{WriteRefusal, append_term, text_of, write_triple};

@@ -1,10 +1,9 @@
 // The line of a triple.
 ghost use Rattle.std.specs.Prelude.{◌≡◌, ◌++◌, ◌≤◌, ◌<◌, ℕ, true, length, drop, take, IfOk, OnOk};
 ghost use Rattle.std.specs.Str.{IsUtf8};
-ghost use Rattle.rdf_terms.specs.Fitting.{is_among};
 ghost use Rattle.crm_outside.specs.Printing.{Prints};
 ghost use Rattle.ntriples_writer.specs.Lines as spec;
-ghost use Rattle.ntriples_writer.specs.Lines.{AreNamed, canonical_line};
+ghost use Rattle.ntriples_writer.specs.Lines.{canonical_line};
 
 use crm_outside::{PrintFault, Sink, Text, print_text};
 use itoa::Buffer;
@@ -91,15 +90,17 @@ fn append_literal(literal: &Literal, out: &mut Vec<u8>) -> Result<(), AllocError
     append_ending(literal, out)
 }
 
-fn append_term(names: &Names, term: Term, out: &mut Vec<u8>) -> Result<(), AllocError>
-    requires { is_among names.now term ≡ true }
+/// Appends a term as a line has it: an IRI in brackets, `_:b` and the number of a blank node, or a literal.
+///
+/// Of a number that no name has, an IRI is an empty one, and a literal is nothing.
+pub fn append_term(names: &Names, term: Term, out: &mut Vec<u8>) -> Result<(), AllocError>
     ensures appended { OnOk result (out.new.items ≡ out.old.items ++ spec.term_text names.now term) }
     ensures utf8 { OnOk result (IsUtf8 (spec.term_text names.now term)) }
 {
     match term {
         Term::Iri(n) => match names.get_iri(n) {
             Some(iri) => append_iri(iri, out),
-            None => unreachable!(),
+            None => append_iri("", out),
         },
         Term::Blank(n) => {
             out.extend_from_slice(b"_:b")?;
@@ -107,14 +108,13 @@ fn append_term(names: &Names, term: Term, out: &mut Vec<u8>) -> Result<(), Alloc
         }
         Term::Lit(n) => match names.get_literal(n) {
             Some(literal) => append_literal(literal, out),
-            None => unreachable!(),
+            None => Ok(()),
         },
     }
 }
 
 #[tactic(auto, unfolding(crate::specs::Lines::canonical_line))]
 fn line_of(alloc: Global, names: &Names, t: Triple) -> Result<Vec<u8>, AllocError>
-    requires { AreNamed names.now t }
     ensures line { IfOk result (λ line. line.items ≡ canonical_line names.now t) }
     ensures utf8 { OnOk result (IsUtf8 (canonical_line names.now t)) }
 {
@@ -128,7 +128,7 @@ fn line_of(alloc: Global, names: &Names, t: Triple) -> Result<Vec<u8>, AllocErro
     Ok(line)
 }
 
-/// Appends the canonical line of a triple, with its line feed. Its IRIs and literals are among the names.
+/// Appends the canonical line of a triple, with its line feed.
 ///
 /// At an error a front of the line is appended; `Failed` comes only where a call on the sink failed.
 pub fn write_triple<W: Sink>(
@@ -137,7 +137,6 @@ pub fn write_triple<W: Sink>(
     t: Triple,
     out: &mut W,
 ) -> Result<(), WriteRefusal>
-    requires { AreNamed names.now t }
     ensures { Prints W.written W.faults W.sure out.old out.new (canonical_line names.now t) result }
 {
     let Ok(line) = line_of(alloc, names, t) else {
@@ -146,9 +145,8 @@ pub fn write_triple<W: Sink>(
     print_text(out, line.as_slice())
 }
 
-/// The canonical line of a triple, with its line feed. Its IRIs and literals are among the names.
+/// The canonical line of a triple, with its line feed.
 pub fn text_of(alloc: Global, names: &Names, t: Triple) -> Result<Text, AllocError>
-    requires { AreNamed names.now t }
     ensures { IfOk result (λ text. text ≡ canonical_line names.now t) }
 {
     let line = line_of(alloc, names, t)?;

@@ -1,5 +1,4 @@
-ghost use Rattle.std.specs.Prelude.{◌≡◌, ◌<◌, ◌^◌, true, length, IfOk};
-ghost use Rattle.ntriples_writer.specs.Lines.{AreNamed};
+ghost use Rattle.std.specs.Prelude.{◌<◌, ◌^◌, length, IfOk};
 
 use crate::{text_of, write_triple};
 use crm_outside::{MemSink, Numbers, Text};
@@ -45,27 +44,12 @@ fn is_line(alloc: Global, names: &Names, s: Term, o: Term, line: &str) -> Result
         o,
         at: 7,
     };
-    if !is_named(names, s) || !is_named(names, Term::Iri(1)) || !is_named(names, o) {
-        return Ok(false);
-    }
     let text = text_of(alloc, names, triple)?;
     let mut sink = MemSink::new(alloc, 200, 3, Numbers::new(alloc))?;
     if write_triple(alloc, names, triple, &mut sink).is_err() {
         return Ok(false);
     }
     Ok(text.as_str() == line && sink.written() == line.as_bytes())
-}
-
-ghost use Rattle.rdf_terms.specs.Fitting.{is_among};
-
-fn is_named(names: &Names, term: Term) -> bool
-    ensures { result ≡ is_among names.now term }
-{
-    match term {
-        Term::Iri(n) => names.get_iri(n).is_some(),
-        Term::Blank(_) => true,
-        Term::Lit(n) => names.get_literal(n).is_some(),
-    }
 }
 
 #[test]

@@ -24,11 +24,11 @@ returns-in_err-print_text g c =
     let p = err_from_is_err_and c.from_residual.result c.from_residual.ensures.1 in rw (p.1, p.2) (record {
       ok = tt;
       err = broken_line order_line c.args.orders.now g.W.Sink.written g.W.Sink.faults g.W.Sink.sure c.loop-k.k c.in-Some.order.now c.in-Some.ensures _ _ _ _ c.loop-k.invariant
-          (subst (λ (u : List ℕ). Broken g.W.Sink.written g.W.Sink.faults g.W.Sink.sure c.loop-k.out c.print_text.new.out u c.in_err-print_text.field-0.0) text c.in_err-print_text.ensures.err);
+          (subst (λ (u : List ℕ). Broken g.W.Sink.written g.W.Sink.faults g.W.Sink.sure c.loop-k.out c.print_text.new.out u c.in_err-print_text.field-0.0) text c.in_err-print_text.ensures.prints.err);
     })
 
 pub loop-k-preserved : goal.loop-k-preserved
 loop-k-preserved g c =
     let text = c.as_bytes.ensures.value ∙ c.in-Ok.ensures in
     next_line order_line c.args.orders.now g.W.Sink.written g.W.Sink.faults g.W.Sink.sure c.loop-k.k c.in-Some.order.now c.in-Some.ensures _ _ _ c.loop-k.invariant
-    (subst (Printed g.W.Sink.written g.W.Sink.faults g.W.Sink.sure c.loop-k.out c.print_text.new.out) text c.in_ok-print_text.ensures.ok)
+    (subst (Printed g.W.Sink.written g.W.Sink.faults g.W.Sink.sure c.loop-k.out c.print_text.new.out) text c.in_ok-print_text.ensures.prints.ok)
