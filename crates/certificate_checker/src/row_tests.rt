@@ -46,11 +46,13 @@ fn class(code: &str) -> ClassId {
 
 // What is answered where the first extents are periods, of a subject that is E5 and E21.
 fn answer(
+    rt: &impl Abort,
     alloc: Global,
     orders: &OrderSet,
     periods: &Numbers,
     text: &[u8],
-) -> Result<Result<Verdict, CertRefusal>, AllocError> {
+) -> Result<Result<Verdict, CertRefusal>, Fail> {
+    assert!(rt; text.len() < 4096);
     let mut types = TypeRows::new(alloc);
     let mut due = Numbers::new(alloc);
     for (triple, code) in [(0, "E5"), (1, "E21")] {
@@ -158,7 +160,7 @@ fn judges_worked_certificates(rt: HostRuntime) -> Result<(), Fail> {
     ] {
         let text = changed(alloc, base, old, new)?;
         let orders = if base == WALKS { &chain } else { &set };
-        let got = answer(alloc, orders, &periods, text.as_bytes())?;
+        let got = answer(&rt, alloc, orders, &periods, text.as_bytes())?;
         assert_eq!(rt; got, want, "{text}");
     }
     Ok(())
@@ -196,7 +198,10 @@ fn judges_cycles(rt: HostRuntime) -> Result<(), Fail> {
             Ok(Verdict::Inconsistent),
         ),
     ] {
-        assert_eq!(rt; answer(alloc, &dated, &periods, text.as_bytes())?, want);
+        assert_eq!(rt;
+            answer(&rt, alloc, &dated, &periods, text.as_bytes())?,
+            want
+        );
     }
     for (text, want) in [
         ("", CertRefusal::K1(0)),
@@ -219,7 +224,7 @@ fn judges_cycles(rt: HostRuntime) -> Result<(), Fail> {
         (flat.as_str(), CertRefusal::K4(147)),
     ] {
         assert_eq!(rt;
-            answer(alloc, &looped, &periods, text.as_bytes())?,
+            answer(&rt, alloc, &looped, &periods, text.as_bytes())?,
             Err(want),
             "{text}"
         );
