@@ -1,7 +1,7 @@
 -- Nodes that are looked for by their place among the extents, and the numbers of the periods.
 use Rattle.std.proofs.Common.{ℕ, zero, suc, ◌≡◌, ◌<◌, ◌≤◌, ◌+◌, ◌-◌, ◌++◌, Bool, true, false, cond, Option, Some, None, List, [], ◌∷◌, map, position, slice_get, get_or, length, take, refl, sym, ap, ◌∙◌, arith, nat_lt, inl, inr}
 use Rattle.std.proofs.Math.Path.{fun_ext}
-use Rattle.std.specs.List.{position_or_len}
+use Rattle.std.specs.List.{list_any, position_or_len}
 use Rattle.std.proofs.lemmas.Option.{slice_get-get_or}
 use Rattle.std.proofs.lemmas.List.{length-take-le, length-append}
 use Rattle.std.proofs.lemmas.Bool.{cases_lt, cond-true, cond-false, lt-ltb, le-ltb}
@@ -12,9 +12,10 @@ use Rattle.rdf_terms.proofs.TermLemmas.{same_term_is}
 use Rattle.rdf_terms.proofs.Numbered.{found_map}
 use Rattle.order_laws.specs.declared.Order.{Order}
 use Rattle.order_core.specs.Sets.{completed, extent_orders, date_orders}
-use Rattle.boundary_orders.specs.Orders.{extent_number}
+use Rattle.boundary_orders.specs.Orders.{is_numbered, extent_number}
 use Rattle.boundary_orders.specs.Dossiers.{periods_from, number_where}
 use Rattle.boundary_orders.proofs.Growing.{take_grow}
+use Rattle.boundary_orders.proofs.Within.{place_within}
 
 test_of : (n : Term) → ghosts.eq n ≡ same_term n
 test_of n = fun_ext (λ t. same_term_is n t)
@@ -43,6 +44,17 @@ place_is p xs k e =
 
 pub number_found : (n : Term) (es : List (Term × Bool)) (k : ℕ) → position (ghosts.eq n) (map (λ (e : Term × Bool). e.0) es) ≡ Some k → k ≡ extent_number es n
 number_found n es k e = place_is (λ (x : Term × Bool). same_term n x.0) es k (sym (place_found n es) ∙ e)
+
+no_place : {X : Type 0} (p : X → Bool) (xs : List X) → position p xs ≡ None → list_any p xs ≡ true → ⊥
+no_place p xs e h =
+    let none : Some (position_or_len p xs) ≡ None =
+    sym (cond-true (nat_lt (position_or_len p xs) (length xs)) (Some (position_or_len p xs)) None (lt-ltb (position_or_len p xs) (length xs) (place_within p xs h))) ∙ e in
+    let never : ⊥ = cc in
+    never
+
+-- an extent has a place
+pub number_missing : (n : Term) (es : List (Term × Bool)) → position (ghosts.eq n) (map (λ (e : Term × Bool). e.0) es) ≡ None → is_numbered es n ≡ true → ⊥
+number_missing n es e h = no_place (λ (x : Term × Bool). same_term n x.0) es (sym (place_found n es) ∙ e) h
 
 -- one extent more
 pub periods_push : (n : ℕ) (es : List (Term × Bool)) (e : Term × Bool) →

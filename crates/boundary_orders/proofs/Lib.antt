@@ -3,3 +3,12 @@ pub mod Standing
 pub mod Numbering
 pub mod Dating
 pub mod Finding
+pub mod Covering
+pub mod Within
+pub mod Holding
+pub mod Ruling
+pub mod Counting
+pub mod Pointing
+pub mod Fitting
+pub mod Counted
+pub mod Dated

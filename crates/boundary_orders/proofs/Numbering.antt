@@ -162,3 +162,31 @@ rows_grow kind ps number t =
     ap (λ (rs : Rows). with_node kind rs t.o) (sym (rows_push kind (ends_in ps) t.s))
     ∙ sym (rows_push kind (ends_in ps ++ t.s ∷ []) t.o)
     ∙ ap (rows_by kind) (append_assoc (ends_in ps) (t.s ∷ []) (t.o ∷ []) ∙ sym (flat_map-append (λ (p : ℕ × Triple). p.1.s ∷ p.1.o ∷ []) ps ((number, t) ∷ [])))
+
+or_true : (x : Bool) → (x || true) ≡ true
+or_true true = refl
+or_true false = refl
+
+rows_listed : (kind : Term → Option Bool) (n : Term) (b : Bool) → kind n ≡ Some b → (ds : List Term) → list_any (same_term n) ds ≡ true →
+    list_any (λ (e : Term × Bool). same_term n e.0) (filter_map (row_by kind) ds) ≡ true
+rows_listed kind n b has [] h = absurd (both_ways false refl h)
+rows_listed kind n b has (d ∷ ds) h =
+    elim (cases_Bool (same_term n d)) [
+      | inl same ↦
+          ap (λ (rs : Rows). list_any (λ (e : Term × Bool). same_term n e.0) rs) (one_row kind d b ds (ap kind (sym (same_term-true n d same)) ∙ has))
+          ∙ ap (λ (x : Bool). x || list_any (λ (e : Term × Bool). same_term n e.0) (filter_map (row_by kind) ds)) same
+      | inr differs ↦ behind (kind d) refl (rows_listed kind n b has ds (sym (ap (λ (x : Bool). x || list_any (same_term n) ds) differs) ∙ h))
+    ]
+  where
+    behind : (o : Option Bool) → kind d ≡ o → list_any (λ (e : Term × Bool). same_term n e.0) (filter_map (row_by kind) ds) ≡ true →
+        list_any (λ (e : Term × Bool). same_term n e.0) (filter_map (row_by kind) (d ∷ ds)) ≡ true
+    behind None e r = ap (λ (rs : Rows). list_any (λ (x : Term × Bool). same_term n x.0) rs) (no_row kind d ds e) ∙ r
+    behind (Some c) e r =
+        ap (λ (rs : Rows). list_any (λ (x : Term × Bool). same_term n x.0) rs) (one_row kind d c ds e)
+        ∙ ap (λ (x : Bool). same_term n d || x) r
+        ∙ or_true (same_term n d)
+
+-- a node of the list that has a kind has a row
+pub node_listed : (kind : Term → Option Bool) (ns : List Term) (n : Term) (b : Bool) → kind n ≡ Some b → list_any (same_term n) ns ≡ true →
+    list_any (λ (e : Term × Bool). same_term n e.0) (rows_by kind ns) ≡ true
+node_listed kind ns n b has h = rows_listed kind n b has (distinct ns) (any_distinct ns n ∙ h)

@@ -1,9 +1,14 @@
 -- What is found of extents and orders, and the limits.
-use Rattle.std.specs.Prelude.{suc, ℕ, ◌≡◌, ◌<◌, ◌≤◌, Bool, cond, Option, Some, None, List, [], ◌∷◌, length, ⊤}
+use Rattle.std.specs.Prelude.{suc, ℕ, ◌≡◌, ◌<◌, ◌≤◌, Bool, true, cond, Option, is_some, Some, None, List, [], ◌∷◌, length, ⊤}
+use Rattle.std.specs.List.{All}
+use Rattle.std.specs.List.Sorted.{IsStrictlyIncreasing}
 use Rattle.rdf_terms.specs.declared.terms.Term.{Term}
 use Rattle.rdf_terms.specs.declared.terms.Triple.{Triple}
 use Rattle.rdf_terms.specs.Naming.{NameLists}
 use Rattle.crm_type_check.specs.declared.Fault.{Fault}
+use Rattle.triple_pool.specs.Pool.{triple_of}
+use Rattle.order_laws.specs.declared.By.{By}
+use Rattle.order_laws.specs.declared.By.TheVariants.{Triple as FromTriple, Extent, Dates as ByDates}
 use Rattle.order_core.specs.Sets.{Orders}
 use Rattle.boundary_orders.specs.declared.statements.Statement.{Statement}
 use Rattle.boundary_orders.specs.declared.faults.BuildFault.{BuildFault}
@@ -36,6 +41,21 @@ findings_in names extents statements =
 abbrev pub findings_of : NameLists → List (ℕ × Triple) → List Fault → Findings
 findings_of names triples faults = findings_in names (extents_of names triples faults) (statements_of names triples faults)
 
+-- what the parts of a dossier keep
+pub record IsKept (extents : List (Term × Bool)) (periods : List ℕ) (count : ℕ) : Type 0 where
+  pub few : length extents ≤ 2048
+  pub counted : count ≡ length extents
+  pub numbered : periods ≡ periods_from 0 extents
+
+-- what every dossier keeps: the periods are numbers of extents, ascending
+pub record IsWhole (found : Findings) : Type 0 where
+  pub few_extents : length found.extents ≤ 2048
+  pub few_periods : length found.periods ≤ 2048
+  pub counted : found.orders.extents ≡ length found.extents
+  pub numbered : found.periods ≡ periods_from 0 found.extents
+  pub ascending : IsStrictlyIncreasing found.periods
+  pub within : All (λ k. k < length found.extents) found.periods
+
 -- at most 2,048 extents, 2,048 dates and 65,536 orders
 pub record AreFew (found : Findings) : Type 0 where
   pub extents : length found.extents ≤ 2048
@@ -49,3 +69,9 @@ IsPassed found (TooManyDates n) = (length found.extents ≤ 2048) × (n ≡ leng
 IsPassed found (TooManyOrders n) =
     (length found.extents ≤ 2048) × (length found.orders.dates ≤ 2048) × (n ≡ length found.orders.list) × (65536 < n)
 IsPassed found Memory = ⊤
+
+-- an order that a triple gives has the number of one
+abbrev pub IsSourced : List (ℕ × Triple) → By → Type 0
+IsSourced triples (FromTriple n) = is_some (triple_of n triples) ≡ true
+IsSourced triples (Extent k) = ⊤
+IsSourced triples ByDates = ⊤

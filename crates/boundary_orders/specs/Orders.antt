@@ -1,6 +1,6 @@
 -- The dates and the orders.
-use Rattle.std.specs.Prelude.{ℕ, ℤ, ◌&&◌, Bool, true, false, cond, not, Option, Some, None, Result, Ok, Err, List, [], ◌∷◌, map, flat_map, length, int_lt, slice_index_or}
-use Rattle.std.specs.List.{position_or_len, filter_map, fold}
+use Rattle.std.specs.Prelude.{ℕ, ℤ, pos, ◌≡◌, ◌^◌, ◌-ℤ◌, ◌<ℤ◌, ◌&&◌, Bool, true, false, cond, not, Option, Some, None, Result, Ok, Err, List, [], ◌∷◌, map, flat_map, length, int_lt, slice_index_or}
+use Rattle.std.specs.List.{list_any, position_or_len, filter_map, fold}
 use Rattle.std.specs.Option.{option_map}
 use Rattle.std.specs.Ordering.{int_cmp}
 use Rattle.std.specs.BTreeSet.{insert_key}
@@ -34,6 +34,10 @@ instant_in code (Some l) = ok_of (date_of l.lexical l.datatype (side_of code))
 -- the date of a statement that has one
 abbrev pub instant_of : NameLists → Statement → Option ℤ
 instant_of names s = cond (is_dated s.code) (instant_in s.code (literal_of names s.range)) None
+
+-- more than -2 ^ 100 and less than 2 ^ 100 nanoseconds
+abbrev pub IsInstant : ℤ → Type 0
+IsInstant t = ((pos 0 -ℤ pos (2 ^ 100)) <ℤ t) × (t <ℤ pos (2 ^ 100))
 
 -- the distinct dates of statements, ascending
 abbrev pub dates_of : NameLists → List (ℕ × Statement) → List ℤ
@@ -110,8 +114,22 @@ order_by triple domain range r =
 abbrev pub extent_number : List (Term × Bool) → Term → ℕ
 extent_number extents node = position_or_len (λ e. same_term node e.0) extents
 
+-- the node is one of the extents
+abbrev pub is_numbered : List (Term × Bool) → Term → Bool
+is_numbered extents node = list_any (λ e. same_term node e.0) extents
+
+-- the resource ends of a statement are extents
+pub record AreNumbered (extents : List (Term × Bool)) (s : Statement) : Type 0 where
+  pub domain : is_numbered extents s.domain ≡ true
+  pub range : is_dated s.code ≡ false → is_numbered extents s.range ≡ true
+
 abbrev pub same_instant : ℤ → ℤ → Bool
 same_instant a b = not (int_lt a b) && not (int_lt b a)
+
+-- the date, where there is one, is one of the dates
+abbrev pub is_held : List ℤ → Option ℤ → Bool
+is_held dates None = true
+is_held dates (Some t) = list_any (same_instant t) dates
 
 -- the number of a date among ascending ones
 abbrev pub date_number : List ℤ → ℤ → ℕ

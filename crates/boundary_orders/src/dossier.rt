@@ -1,9 +1,10 @@
 // The dossier of a pool.
-ghost use Rattle.std.specs.Prelude.{◌≡◌, ◌≤◌, ◌<◌, ◌-◌, ◌+◌, ◌++◌, IfOk, IfErr, IfSome, OnOk, IsOkUnless, length, position, slice_get, option_map};
+ghost use Rattle.std.specs.Prelude.{◌≡◌, ◌≤◌, ◌<◌, ◌^◌, ◌++◌, true, IfOk, IfErr, OnOk, length, map, position, slice_get, option_map};
+ghost use Rattle.std.specs.List.{All};
 ghost use Rattle.rdf_terms.specs.Terms.{same_term};
-ghost use Rattle.boundary_orders.specs.declared.faults.BuildFault.{BuildFault};
-ghost use Rattle.order_core.specs.Sets.{completed};
-ghost use Rattle.boundary_orders.specs.Dossiers.{Findings, findings_in, findings_of, periods_from, number_where, AreFew, IsPassed};
+ghost use Rattle.rdf_terms.specs.Fitting.{is_among, AllFit};
+ghost use Rattle.boundary_orders.specs.Orders.{AreNumbered};
+ghost use Rattle.boundary_orders.specs.Dossiers.{findings_in, findings_of, periods_from, number_where, AreFew, IsPassed, IsSourced, IsWhole};
 
 use crate::dates::find_dates;
 use crate::extents::{ExtentTable, find_extents};
@@ -12,9 +13,7 @@ use crate::listing::list_orders;
 use crate::statements::{StatementList, faulty_numbers, find_statements};
 use crm_outside::Numbers;
 use crm_type_check::{Faults, index_of};
-use order_core::{
-    Dates, OrderList, OrderSet, are_ascending, are_in_range, are_instants, completed_set,
-};
+use order_core::{OrderSet, completed_set};
 use rdf_terms::{Names, Term};
 use std::alloc::{AllocError, Global};
 use std::marker::Model;
@@ -43,13 +42,13 @@ pub struct Dossier {
 
 impl Model for Dossier {
     ghost use Rattle.std.specs.Prelude.{length, ◌≤◌};
-    ghost use Rattle.boundary_orders.specs.Dossiers.{Findings};
+    ghost use Rattle.boundary_orders.specs.Dossiers.{Findings, IsKept};
 
     ghost Value = { Findings };
 
     ghost view = { λ d. record { extents = d.extents.entries; periods = d.periods; orders = d.orders } };
 
-    ghost invariant = { λ d. length d.extents.entries ≤ 2048 };
+    ghost invariant = { λ d. IsKept d.extents.entries d.periods d.orders.extents };
 }
 
 impl Dossier {
@@ -65,12 +64,22 @@ impl Dossier {
         ensures ok { IfOk result (λ d. d ≡ findings_of names.now pool.now.pairs faults.now) }
         ensures few { IfOk result (λ d. AreFew d) }
         ensures err { IfErr result (λ e. IsPassed (findings_of names.now pool.now.pairs faults.now) e) }
+        ensures fits { AllFit names.now (map (λ p. p.1) pool.now.pairs) → IfOk result (λ d. All (λ e. is_among names.now e.0 ≡ true) d.extents) }
+        ensures sources { IfOk result (λ d. All (λ o. IsSourced pool.now.pairs o.by) d.orders.list) }
     {
+        let _count = pool.len();
         let index = index_of(alloc, names, pool)?;
         let faulty = faulty_numbers(alloc, faults)?;
         let statements = find_statements(alloc, names, pool, &index, &faulty)?;
         let extents = find_extents(alloc, names, pool, &faulty, &statements)?;
         arrange(alloc, names, extents, &statements)
+    }
+
+    /// Does nothing; its contract says what every dossier keeps.
+    pub fn conditions(&self)
+        ensures { IsWhole self.now }
+    {
+        let _extents = self.extents.len();
     }
 
     /// The orders between the boundaries of the extents and the dates.
@@ -136,75 +145,36 @@ fn find_periods(alloc: Global, extents: &ExtentTable) -> Result<Numbers, AllocEr
     Ok(periods)
 }
 
-// The count of the orders of statements, extents and neighbouring dates.
-fn count_orders(statements: &OrderList, extents: u32, dates: u32) -> Option<u32>
-    ensures { IfSome result (λ n. n ≡ length statements.now + (extents + (dates - 1))) }
-{
-    let Ok(count) = u32::try_from(statements.len()) else {
-        return None;
-    };
-    match extents.checked_add(dates.saturating_sub(1)) {
-        Some(others) => count.checked_add(others),
-        None => None,
-    }
-}
-
-fn small_count(count: usize) -> Result<u32, BuildFault>
-    ensures ok { IfOk result (λ n. n ≡ count) }
-    ensures memory { IsOkUnless result BuildFault.Memory }
-{
-    match u32::try_from(count) {
-        Ok(count) => Ok(count),
-        Err(_) => Err(BuildFault::Memory),
-    }
-}
-
-fn order_set(extents: u32, dates: Dates, statements: OrderList) -> Result<OrderSet, BuildFault>
-    requires few_extents { extents ≤ 2048 }
-    requires few_dates { length dates ≤ 2048 }
-    requires few { length statements ≤ 65536 }
-    ensures ok { IfOk result (λ s. s ≡ record { extents = extents; dates = dates; list = completed extents (length dates) statements }) }
-    ensures memory { IsOkUnless result BuildFault.Memory }
-{
-    let count = dates.len() as u32;
-    let holds = are_instants(dates.as_slice())
-        && are_ascending(dates.as_slice())
-        && are_in_range(extents, count, statements.as_slice());
-    if !holds {
-        return Err(BuildFault::Memory);
-    }
-    Ok(completed_set(extents, dates, statements)?)
-}
-
-#[tactic(auto, using(crate::proofs::Finding::completed_count))]
+// The dossier of these extents and statements, or the first limit that is passed.
 fn arrange(
     alloc: Global,
     names: &Names,
     extents: ExtentTable,
     statements: &StatementList,
 ) -> Result<Dossier, BuildFault>
+    requires numbered { All (λ s. AreNumbered extents.entries s.1) statements.now }
+    requires few_extents { length extents.entries ≤ 2 ^ 20 }
+    requires few_statements { length statements.now ≤ 2 ^ 20 }
     ensures ok { IfOk result (λ d. d ≡ findings_in names.now extents.entries statements.now) }
     ensures few { IfOk result (λ d. AreFew d) }
     ensures err { IfErr result (λ e. IsPassed (findings_in names.now extents.entries statements.now) e) }
 {
-    let extent_count = small_count(extents.len())?;
+    let extent_count = extents.len() as u32;
     if extent_count > EXTENT_LIMIT {
         return Err(BuildFault::Extents(extent_count));
     }
     let dates = find_dates(alloc, names, statements)?;
-    let date_count = small_count(dates.len())?;
+    let date_count = dates.len() as u32;
     if date_count > DATE_LIMIT {
         return Err(BuildFault::Dates(date_count));
     }
     let list = list_orders(alloc, names, &extents, dates.as_slice(), statements)?;
-    let Some(order_count) = count_orders(&list, extent_count, date_count) else {
-        return Err(BuildFault::Memory);
-    };
+    let order_count = list.len() as u32 + extent_count + date_count.saturating_sub(1);
     if order_count > ORDER_LIMIT {
         return Err(BuildFault::Orders(order_count));
     }
     let periods = find_periods(alloc, &extents)?;
-    let orders = order_set(extent_count, dates, list)?;
+    let orders = completed_set(extent_count, dates, list)?;
     Ok(Dossier {
         extents,
         periods,

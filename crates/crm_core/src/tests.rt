@@ -32,7 +32,7 @@ fn prints_each_report(rt: HostRuntime) -> Result<(), Fail> {
     assert_eq!(rt; write_orders(alloc, &archive, &mut out), Ok(Status::Done));
     assert_eq!(rt; write_convert(alloc, &archive, &mut out), Ok(Status::Done));
     let text = format!(in alloc;
-        "triples 3\nfault t0 at 82 D1\nfault t2 at 273 R4 Form 0\nfaults 2\nextents 1\nx0 span <http://e/x>\ndates 0\norders 1\no0 s0 < e0 x0\n{file}"
+        "triples 3\nfault t0 at 82 D1\nfault t2 at 268 R4 Form 0\nfaults 2\nextents 1\nx0 span <http://e/x>\ndates 0\norders 1\no0 s0 < e0 x0\n{file}"
     )?;
     assert_eq!(rt; out.written(), text.as_bytes());
     Ok(())

@@ -1,7 +1,7 @@
 // The texts of trees.
 ghost use Rattle.std.specs.Prelude.{◌≡◌, ◌++◌, OnOk, IfOk, codes, string_bytes};
 ghost use Rattle.std.specs.Fmt.{decimal};
-ghost use Rattle.certificate_checker.specs.TreeTexts.{order_leaf, shared_leaf, tree_bytes};
+ghost use Rattle.certificate_reader.specs.TreeTexts.{order_leaf, shared_leaf, tree_bytes};
 
 use crate::rules::{Join, Weaken};
 use crm_outside::Text;

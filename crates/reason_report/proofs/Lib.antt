@@ -1,0 +1,10 @@
+mod PrintedParts
+mod Listed
+mod Counts
+mod Rows
+mod ConsistentText
+mod Points
+mod Membership
+mod Listings
+mod Broken
+mod Standing

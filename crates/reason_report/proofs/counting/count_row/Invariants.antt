@@ -1,0 +1,10 @@
+use Rattle.std.proofs.Common.{take, ◌≡◌, ◌≤◌, ◌*◌}
+use Rattle.std.specs.List.{flat_map}
+use Rattle.reason_report.specs.Relations.{relations_between, count_primitives}
+use Rattle.reason_report.proofs.counting.count_row.Given as goal
+
+abbrev pub invariant-loop-i : goal.invariant-loop-i
+invariant-loop-i l = record {
+  counted : l.count ≡ count_primitives (flat_map (relations_between l.basis.set.list l.a) (take l.i l.basis.periods));
+  few : l.count ≤ 8 * l.i;
+}

@@ -1,0 +1,5 @@
+pub mod Subjects
+pub mod Relations
+pub mod Reason
+pub mod Answers
+pub mod Listings

@@ -1,0 +1,4 @@
+pub mod Rests
+pub mod Backs
+pub mod Whole
+pub mod Unique

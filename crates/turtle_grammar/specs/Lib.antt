@@ -1,0 +1,4 @@
+pub mod Machine
+pub mod Tokens
+pub mod Grammar
+pub mod Runs

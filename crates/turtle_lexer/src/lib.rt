@@ -1,0 +1,12 @@
+//! The tokens of Turtle, from bytes that come in pieces.
+#![tactic(auto)]
+
+mod lexer;
+#[cfg(test)]
+mod tests;
+mod token;
+mod values;
+
+pub use lexer::Lexer;
+pub use token::{Next, Token};
+pub use turtle_tokens::TokenKind;
