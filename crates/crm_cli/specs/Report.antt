@@ -6,15 +6,16 @@ use Rattle.ntriples_reader.specs.Answers.{Answer}
 use Rattle.ntriples_reader.specs.Answers.Answer.{Refuse, Read}
 use Rattle.crm_core.specs.declared.status.Status.TheVariants.{Usage, ReadFault}
 use Rattle.crm_core.specs.Files.{file_answer, is_ntriples}
-use Rattle.crm_core.specs.Reports.{Report, orders_report, check_report, convert_report, refusal_report}
+use Rattle.crm_core.specs.Reports.{Report, orders_report, check_report, reason_report, convert_report, refusal_report}
 use Rattle.crm_cli.specs.declared.words.Command.{Command}
-use Rattle.crm_cli.specs.declared.words.Command.TheVariants.{Orders, Check, Convert}
+use Rattle.crm_cli.specs.declared.words.Command.TheVariants.{Orders, Check, Reason, Convert}
 use Rattle.crm_cli.specs.Words.{command_of, file_of}
 
 -- of the records of a file
 abbrev pub records_report : Command → Records → Report
 records_report (Orders base file) r = orders_report r
 records_report (Check base file) r = check_report r
+records_report (Reason base file) r = reason_report r
 records_report (Convert base file) r = convert_report r
 
 -- of the records of a file, or of its refusal

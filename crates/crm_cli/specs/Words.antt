@@ -1,10 +1,10 @@
 -- The commands that words name.
-use Rattle.std.specs.Prelude.{ℕ, Bool, not, ◌&&◌, nat_eq, nat_lt, List, [], ◌∷◌, Option, Some, None, if◌then◌else◌, codes}
+use Rattle.std.specs.Prelude.{ℕ, Bool, not, ◌&&◌, nat_eq, nat_lt, List, [], ◌∷◌, Option, Some, None, if◌then◌else◌, codes, ⊤, IfSome, IsTrue}
 use Rattle.std.specs.Str.{bytes_eq}
 use Rattle.std.specs.List.{starts_with, list_any, list_all}
 use Rattle.iri_resolve.specs.Splitting.{has_scheme}
 use Rattle.crm_cli.specs.declared.words.Command.{Command}
-use Rattle.crm_cli.specs.declared.words.Command.TheVariants.{Orders, Check, Convert}
+use Rattle.crm_cli.specs.declared.words.Command.TheVariants.{Orders, Check, Reason, Convert}
 
 abbrev pub is_option : List ℕ → Bool
 is_option word = starts_with nat_eq word (codes "--")
@@ -21,6 +21,7 @@ abbrev pub file_command : List ℕ → Option (List ℕ) → List ℕ → Option
 file_command name base file =
     if bytes_eq name (codes "orders") then Some (Orders base file) else
     if bytes_eq name (codes "check") then Some (Check base file) else
+    if bytes_eq name (codes "reason") then Some (Reason base file) else
     if bytes_eq name (codes "convert") then Some (Convert base file) else None
 
 -- no other word begins with `--`
@@ -46,4 +47,17 @@ command_of (name ∷ words) = based name words
 abbrev pub file_of : Command → List ℕ
 file_of (Orders base file) = file
 file_of (Check base file) = file
+file_of (Reason base file) = file
 file_of (Convert base file) = file
+
+-- and the base
+abbrev pub base_of : Command → Option (List ℕ)
+base_of (Orders base file) = base
+base_of (Check base file) = base
+base_of (Reason base file) = base
+base_of (Convert base file) = base
+
+-- a base has a scheme
+abbrev pub IsSound : Option Command → Type 0
+IsSound None = ⊤
+IsSound (Some command) = IfSome (base_of command) (λ b. IsTrue (has_scheme b))

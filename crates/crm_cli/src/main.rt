@@ -1,5 +1,5 @@
-//! A temporal reasoner over CIDOC CRM records: checks the use of classes and properties, and prints the orders between
-//! the starts and the ends of periods.
+//! A temporal reasoner over CIDOC CRM records: checks the use of classes and properties, prints the orders between
+//! the starts and the ends of periods, and what follows from them.
 #![tactic(auto)]
 
 mod run;

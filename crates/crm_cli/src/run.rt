@@ -4,13 +4,13 @@ ghost use Rattle.crm_outside.specs.Causes.{Rose};
 ghost use Rattle.crm_core.specs.Reports.{Writes};
 ghost use Rattle.crm_cli.specs.Outcomes as spec;
 ghost use Rattle.crm_cli.specs.Outcomes.{Outcome, Ends, IsComplete, Faulted};
-ghost use Rattle.crm_cli.specs.Words.{command_of};
+ghost use Rattle.crm_cli.specs.Words.{command_of, IsSound};
 ghost use Rattle.crm_cli.specs.Report.{records_report, read_fault_report, read_fault_text, usage_report, report, command_report};
 
-use crate::words::{Command, file_of, read_words};
+use crate::words::{Command, base_of, file_of, read_words};
 use crm_core::{
     Archive, ArchiveFault, ReportFault, Status, write_check, write_convert, write_orders,
-    write_refusal,
+    write_reason, write_refusal,
 };
 use crm_outside::{Shelf, Sink, write_all};
 use std::alloc::{AllocError, Global};
@@ -68,6 +68,7 @@ fn write_report<W: Sink>(
     match command {
         Command::Orders { base: _, file: _ } => write_orders(alloc, archive, out),
         Command::Check { base: _, file: _ } => write_check(alloc, archive, out),
+        Command::Reason { base: _, file: _ } => write_reason(alloc, archive, out),
         Command::Convert { base: _, file: _ } => write_convert(alloc, archive, out),
     }
 }
@@ -79,6 +80,7 @@ fn run_command<S: Shelf, W: Sink>(
     shelf: &mut S,
     out: &mut W,
 ) -> Status
+    requires { IsSound (Some command.now) }
     ensures report { IfSome (S.files shelf.old) (λ files.
         Ends W.written W.faults W.sure out.old out.new (command_report (Some command.now) files) result
         ⊎ Faulted W.written W.faults W.sure out.old out.new (Rose (S.faults shelf.old) (S.faults shelf.new)) (Some command.now) result) }
@@ -89,7 +91,7 @@ fn run_command<S: Shelf, W: Sink>(
     ensures write { result ≡ Status.WriteFault → Rose (W.faults out.old) (W.faults out.new) }
 {
     let file = file_of(command);
-    match Archive::read(alloc, shelf, file) {
+    match Archive::read(alloc, shelf, file, base_of(command)) {
         Ok(archive) => ended(write_report(alloc, command, &archive, out)),
         Err(ArchiveFault::Refused(refusal)) => ended(write_refusal(alloc, refusal, out)),
         Err(ArchiveFault::Failed) => print_read_fault(alloc, file, out),

@@ -1,3 +1,4 @@
 pub mod Reading
 pub mod Counted
 pub mod Limits
+pub mod Periods

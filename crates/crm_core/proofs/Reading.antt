@@ -1,6 +1,6 @@
 -- A file that is fed to a reader, and what is answered of it.
 use Rattle.std.proofs.Common.{◌≡◌, ℕ, ◌+◌, ◌≤◌, ◌<◌, List, [], ◌++◌, length, refl, sym, ap, subst, ◌∙◌, arith, append_assoc, append-nil, length-append, length-take, take, Option, Some, None, is_some, true, false, true≢false, Result, Ok, Err}
-use Rattle.std.specs.Prelude.{Bool, cond, IfSome, IfOk, IfErr, nat_lt}
+use Rattle.std.specs.Prelude.{Bool, IfSome, IfOk, IfErr, nat_lt}
 use Rattle.std.proofs.lemmas.Bool.Decides.{nat_tests}
 use Rattle.std.proofs.lemmas.List.{take-append-le}
 use Rattle.std.specs.Io.KnownBytes.{Consumes}
@@ -109,25 +109,26 @@ pub broken_off : (b : Bool) (start left : Option (List ℕ)) (e : ArchiveFault) 
 broken_off b None left e t = tt
 broken_off b (Some xs) left e t = by_file b xs left e t
 
--- what is told of N-Triples is told of any file
-less_told : (b : Bool) (r : Result Records ArchiveFault) (xs : List ℕ) → IsTold r (file_answer true xs) → IsTold r (file_answer b xs)
-unfolding file_answer
-less_told true r xs p = p
-less_told false r xs p = by (nat_lt 67108864 (length xs)) p
-  where
-    by : (long : Bool) → IsTold r (cond long (Some (Refuse L1 67108864)) (text_answer true xs)) → IsTold r (cond long (Some (Refuse L1 67108864)) (text_answer false xs))
-    by true q = q
-    by false q = tt
+-- nothing is told of the text
+pub untold : (start left : Option (List ℕ)) (before now : List ℕ → Option Answer) (r : Result Records ArchiveFault) → IsFedWhole start left before now
+    → IfSome start (λ xs. IsTold r (file_answer false xs))
+untold None left before now r w = tt
+untold (Some xs) None before now r w = absurd w.fed.taken
+untold (Some xs) (Some ys) before now r w =
+    let all : xs ≡ w.fed.bytes = w.fed.taken ∙ ap (λ (l : List ℕ). w.fed.bytes ++ l) w.end ∙ append-nil w.fed.bytes in
+    let len : length xs ≡ length w.fed.bytes = ap (λ (l : List ℕ). length l) all in
+    subst (IsTold r) (sym (short_file false xs (omega (arith, len, w.short, w.fed.count)))) tt
 
-by_held : (held start : Option (List ℕ)) (b : Bool) (r : Result Records ArchiveFault) → is_some held ≡ true → start ≡ held → IfSome start (λ xs. IsTold r (file_answer true xs)) → AnswersBytes b held r
+by_held : (held start : Option (List ℕ)) (b : Bool) (r : Result Records ArchiveFault) → is_some held ≡ true → start ≡ held → IfSome start (λ xs. IsTold r (file_answer b xs)) → AnswersBytes b held r
 by_held None start b r is same p = absurd (true≢false (sym is))
-by_held (Some xs) start b r is same p = less_told b r xs (subst (λ (o : Option (List ℕ)). IfSome o (λ ys. IsTold r (file_answer true ys))) same p)
+by_held (Some xs) start b r is same p = subst (λ (o : Option (List ℕ)). IfSome o (λ ys. IsTold r (file_answer b ys))) same p
 
 -- of a file that was opened
-pub of_opened : (o : Option Files) (name : List ℕ) (start : Option (List ℕ)) (r : Result Records ArchiveFault) → IsOpened o name start
-    → IfSome start (λ xs. IsTold r (file_answer true xs)) → Answers o name r
-of_opened None name start r opened p = tt
-of_opened (Some files) name start r opened p = by_held (files name) start (is_ntriples name) r opened.0 opened.1 p
+pub of_opened : (o : Option Files) (name : List ℕ) (start : Option (List ℕ)) (b : Bool) (r : Result Records ArchiveFault) → b ≡ is_ntriples name → IsOpened o name start
+    → IfSome start (λ xs. IsTold r (file_answer b xs)) → Answers o name r
+of_opened None name start b r is opened p = tt
+of_opened (Some files) name start b r is opened p = by_held (files name) start (is_ntriples name) r opened.0 opened.1
+    (subst (λ (t : Bool). IfSome start (λ xs. IsTold r (file_answer t xs))) is p)
 
 not_held : (b : Bool) (held : Option (List ℕ)) → AnswersBytes b held (Err Failed)
 not_held b None = tt

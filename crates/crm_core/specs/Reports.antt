@@ -1,5 +1,5 @@
 -- What a command prints of records, and with which status.
-use Rattle.std.specs.Prelude.{◌≡◌, ℕ, List, [], ◌∷◌, length, nat_lt, if◌then◌else◌, codes, Option, Result, Ok, Err, IfOk, IfErr, OnOk, ⊤}
+use Rattle.std.specs.Prelude.{◌≡◌, ℕ, List, [], ◌∷◌, length, nat_lt, if◌then◌else◌, codes, Option, Result, Ok, Err, IfOk, IfErr, OnOk, ⊤, Bool, cond, ◌++◌, is_none}
 use Rattle.rdf_terms.specs.declared.triples.Records.{Records}
 use Rattle.rdf_terms.specs.declared.terms.Refusal.{Refusal}
 use Rattle.triple_pool.specs.Pool.{number_from}
@@ -15,6 +15,7 @@ use Rattle.crm_core.specs.declared.status.Status.{Status}
 use Rattle.crm_core.specs.declared.status.Status.TheVariants.{Done, Findings as HasFindings, Refused, Usage, ReadFault, WriteFault, Memory}
 use Rattle.crm_core.specs.declared.status.ReportFault.{ReportFault}
 use Rattle.crm_core.specs.declared.status.ReportFault.TheVariants as report
+use Rattle.reason_report.specs.Reason.{report_text, cycle_of}
 use Rattle.crm_core.specs.Names.{code_name}
 use Rattle.crm_core.specs.Texts.{check_text, orders_text, convert_text, refusal_text, count_refusal_text}
 
@@ -56,6 +57,19 @@ dossier_report r = record { status = Done; text = orders_text r.names (findings_
 
 abbrev pub orders_report : Records → Report
 orders_report r = within_limits (findings_from r) (dossier_report r)
+
+-- the faults, the orders, and what follows
+abbrev pub reason_text : Records → List ℕ
+reason_text r = check_text r.triples (faults_in r) ++ (orders_text r.names (findings_from r) ++ report_text (findings_from r).orders (findings_from r).periods)
+
+abbrev pub status_when : Bool → List Fault → Status
+status_when consistent faults = cond consistent (status_by faults) HasFindings
+
+abbrev pub reasons_report : Records → Report
+reasons_report r = record { status = status_when (is_none (cycle_of (findings_from r).orders)) (faults_in r); text = reason_text r }
+
+abbrev pub reason_report : Records → Report
+reason_report r = within_limits (findings_from r) (reasons_report r)
 
 abbrev pub refusal_report : Refusal → Report
 refusal_report f = record { status = Refused; text = refusal_text (code_name f.code) f.at }

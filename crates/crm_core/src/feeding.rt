@@ -1,5 +1,5 @@
 // A file fed to a reader in windows.
-ghost use Rattle.std.specs.Prelude.{◌≡◌, ℕ, ◌+◌, ◌^◌, ◌<◌, ◌≤◌, List, ◌++◌, true, length, Option, Some, OnOk, IfOk, IfErr, IsErrOf, is_some};
+ghost use Rattle.std.specs.Prelude.{◌≡◌, ℕ, ◌+◌, ◌^◌, ◌<◌, ◌≤◌, List, ◌++◌, true, length, Option, None, Some, OnOk, IfOk, IfErr, IsErrOf, is_some};
 ghost use Rattle.crm_outside.specs.Causes.{Rose};
 ghost use Rattle.ntriples_reader.specs.Answers.{Answer};
 ghost use Rattle.ntriples_reader.specs.Feeding.{promised as nt_promised};
@@ -10,6 +10,7 @@ use crm_outside::{FILE_LIMIT, Shelf};
 use ntriples_reader::NtReader;
 use rdf_terms::{Code, Refusal};
 use std::alloc::AllocError;
+use turtle_reader::TurtleReader;
 
 /// A reader of bytes that come in pieces, fewer than 2^32 in all.
 pub(crate) trait Feeds {
@@ -30,6 +31,16 @@ impl Feeds for NtReader {
     ghost count = { λ r. r.fed.count };
 
     ghost promised = { λ r more. Some (nt_promised r more) };
+
+    fn feed_piece(&mut self, piece: &[u8]) -> Result<(), AllocError> {
+        self.feed(piece)
+    }
+}
+
+impl Feeds for TurtleReader {
+    ghost count = { λ r. r.fed.count };
+
+    ghost promised = { λ r more. None };
 
     fn feed_piece(&mut self, piece: &[u8]) -> Result<(), AllocError> {
         self.feed(piece)

@@ -6,6 +6,7 @@ mod feeding;
 mod lines;
 mod names;
 mod printing;
+mod reasoning;
 mod status;
 mod survey;
 #[cfg(test)]
@@ -13,5 +14,6 @@ mod tests;
 mod writing;
 
 pub use archive::Archive;
+pub use reasoning::write_reason;
 pub use status::{ArchiveFault, ReportFault, Status};
 pub use writing::{write_check, write_convert, write_orders, write_refusal};

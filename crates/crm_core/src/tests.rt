@@ -23,7 +23,7 @@ fn prints_each_report(rt: HostRuntime) -> Result<(), Fail> {
         "<http://e/x> <{CRM}P176_starts_before_the_start_of> <http://e/y> .\n<http://e/x> <http://www.w3.org/1999/02/22-rdf-syntax-ns#type> <{CRM}E52_Time-Span> .\n<http://e/x> <{CRM}P82a> \"x\" .\n"
     )?;
     let mut shelf = shelf_of(alloc, file.as_str())?;
-    let archive = Archive::read(alloc, &mut shelf, "a.nt")?;
+    let archive = Archive::read(alloc, &mut shelf, "a.nt", None)?;
     let mut out = MemSink::new(alloc, 2000, 7, Numbers::new(alloc))?;
     assert_eq!(rt;
         write_check(alloc, &archive, &mut out),
@@ -42,7 +42,7 @@ fn prints_each_report(rt: HostRuntime) -> Result<(), Fail> {
 fn refuses_files(rt: HostRuntime) -> Result<(), Fail> {
     let alloc = rt.alloc();
     let mut shelf = shelf_of(alloc, "<http://e/x> <http://e/p> .\n")?;
-    let refused = Archive::read(alloc, &mut shelf, "a.nt");
+    let refused = Archive::read(alloc, &mut shelf, "a.nt", None);
     assert!(rt;
         matches!(
             refused,
@@ -52,7 +52,7 @@ fn refuses_files(rt: HostRuntime) -> Result<(), Fail> {
             }))
         )
     );
-    let missing = Archive::read(alloc, &mut shelf, "b.nt");
+    let missing = Archive::read(alloc, &mut shelf, "b.nt", None);
     assert!(rt; matches!(missing, Err(ArchiveFault::Failed)));
     Ok(())
 }

@@ -15,7 +15,7 @@ use crm_type_check::Faults;
 use rdf_terms::{Records, Refusal};
 use std::alloc::Global;
 
-fn told(printed: Result<Status, PrintFault>) -> Result<Status, ReportFault>
+pub(crate) fn told(printed: Result<Status, PrintFault>) -> Result<Status, ReportFault>
     ensures { result ≡ spec.told printed }
 {
     match printed {
@@ -25,7 +25,7 @@ fn told(printed: Result<Status, PrintFault>) -> Result<Status, ReportFault>
     }
 }
 
-fn status_of(faults: &Faults) -> Status
+pub(crate) fn status_of(faults: &Faults) -> Status
     ensures status { result ≡ spec.status_by faults.now }
     ensures ending { spec.IsEnding result }
 {
@@ -56,8 +56,12 @@ fn tell_count<W: Sink>(alloc: Global, code: &str, n: u32, out: &mut W) -> Result
     Ok(Status::Refused)
 }
 
-// Tells why there are no orders.
-fn tell_passed<W: Sink>(alloc: Global, fault: BuildFault, out: &mut W) -> Result<Status, PrintFault>
+/// Tells why there are no orders.
+pub(crate) fn tell_passed<W: Sink>(
+    alloc: Global,
+    fault: BuildFault,
+    out: &mut W,
+) -> Result<Status, PrintFault>
     ensures { TellsPassed W.written W.faults W.sure out.old out.new fault result }
 {
     match fault {
@@ -91,7 +95,11 @@ fn tell_dossier<W: Sink>(
     Ok(Status::Done)
 }
 
-fn build_dossier(alloc: Global, records: &Records, survey: &Survey) -> Result<Dossier, BuildFault>
+pub(crate) fn build_dossier(
+    alloc: Global,
+    records: &Records,
+    survey: &Survey,
+) -> Result<Dossier, BuildFault>
     requires pool { survey.now.pool.pairs ≡ number_from 0 records.now.triples }
     requires faults { survey.now.faults ≡ spec.faults_in records.now }
     ensures ok { IfOk result (λ d. d ≡ spec.findings_from records.now) }

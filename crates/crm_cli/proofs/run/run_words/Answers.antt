@@ -1,4 +1,7 @@
-use Rattle.std.proofs.Common.{◌∙◌, sym}
+use Rattle.std.proofs.Common.{◌∙◌, sym, subst}
+use Rattle.std.specs.Prelude.{map, string_bytes}
+use Rattle.crm_cli.specs.Words.{IsSound}
+use Rattle.crm_cli.proofs.Bases.{command_sound}
 use Rattle.crm_outside.specs.Causes.{Rose}
 use Rattle.crm_cli.proofs.Endings.{no_command, no_command_honest}
 use Rattle.crm_cli.proofs.run.run_words.Goals as goal
@@ -12,3 +15,6 @@ returns-clause-honest g c = λ _. no_command_honest g.W.Sink.written g.W.Sink.fa
 
 pub returns-clause-no_form : goal.returns-clause-no_form
 returns-clause-no_form g c = λ _. rw c.as_bytes.ensures.value at c.print_report.ensures
+
+pub run_command-requires : goal.run_command-requires
+run_command-requires g c = subst IsSound (sym c.in-Ok.ensures ∙ c.in-Some.is) (command_sound (map string_bytes c.args.words.now))

@@ -1,0 +1,9 @@
+use Rattle.std.proofs.Common.{false}
+use Rattle.crm_core.proofs.Reading.{untold, broken_off}
+use Rattle.crm_core.proofs.archive.read_turtle.Goals as goal
+
+pub returns-in-Err-clause-answer : goal.returns-in-Err-clause-answer
+returns-in-Err-clause-answer g c = broken_off false _ _ _ c.in-Err.ensures.long
+
+pub returns-clause-answer : goal.returns-clause-answer
+returns-clause-answer g c = untold _ _ _ _ _ c.in-Ok-feed_file.ensures.whole
