@@ -7,7 +7,7 @@ use Rattle.proof_core.specs.Balanced.{IsAssociative}
 use Rattle.order_laws.specs.Points.{is_same}
 use Rattle.certificate_checker.specs.declared.order_theory.OrderFact.{OrderFact}
 use Rattle.certificate_checker.specs.declared.matrix_theory.MatrixFact.{MatrixFact}
-use Rattle.certificate_checker.specs.declared.class_theory.ClassFact.{ClassFact}
+use Rattle.certificate_reader.specs.declared.leaves.ClassFact.{ClassFact}
 use Rattle.certificate_checker.specs.Orders.{joined_facts}
 use Rattle.certificate_checker.specs.Extents.{joined_facts as joined_extents}
 use Rattle.certificate_checker.specs.Classes.{class_joined}

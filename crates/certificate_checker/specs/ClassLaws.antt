@@ -6,7 +6,7 @@ use Rattle.crm_classes.specs.Classes.{is_direct, is_below, IsParentChain, IsBelo
 use Rattle.crm_classes.specs.Table.{above}
 use Rattle.crm_classes.proofs.Closed.{direct_in, below_by_chain, all_below, all_below-at}
 use Rattle.proof_core.specs.Rules.{Rules, KeepsTruth}
-use Rattle.certificate_checker.specs.declared.class_theory.ClassFact.{ClassFact}
+use Rattle.certificate_reader.specs.declared.leaves.ClassFact.{ClassFact}
 use Rattle.certificate_checker.specs.Classes.{class_leaf, class_topped, class_joined, class_rules, IsTrueClass}
 
 given_if : {F : Type 0} (b : Bool) (g h : F) → cond b (Some g) None ≡ Some h → (b ≡ true) × (h ≡ g)

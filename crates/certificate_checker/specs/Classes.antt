@@ -2,9 +2,9 @@
 use Rattle.std.specs.Prelude.{◌≡◌, ◌<◌, ◌==◌, ◌||◌, ◌&&◌, ◌⊎◌, ℕ, Bool, cond, nat_lt, Option, Some, None}
 use Rattle.crm_classes.specs.Classes.{is_direct, IsBelow}
 use Rattle.proof_core.specs.Rules.{Rules}
-use Rattle.certificate_checker.specs.declared.class_theory.ClassFact.{ClassFact}
-use Rattle.certificate_checker.specs.declared.rules.Weaken.{Weaken}
-use Rattle.certificate_checker.specs.declared.rules.Join.{Join}
+use Rattle.certificate_reader.specs.declared.leaves.ClassFact.{ClassFact}
+use Rattle.certificate_reader.specs.declared.rules.Weaken.{Weaken}
+use Rattle.certificate_reader.specs.declared.rules.Join.{Join}
 
 -- a leaf names two classes of the table of which the second is the first or a direct parent of it
 abbrev pub class_leaf : ClassFact → Option ClassFact

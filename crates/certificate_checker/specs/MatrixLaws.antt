@@ -13,7 +13,7 @@ use Rattle.order_laws.specs.Placings.{IsSatisfied, position_at}
 use Rattle.order_laws.specs.Tables.{IsOrderSet}
 use Rattle.order_laws.proofs.Hold.{stand_twice}
 use Rattle.proof_core.specs.Rules.{Rules, KeepsTruth}
-use Rattle.certificate_checker.specs.declared.matrix_theory.Cover.{Cover}
+use Rattle.certificate_reader.specs.declared.matrix_lines.Cover.{Cover}
 use Rattle.certificate_checker.specs.declared.matrix_theory.MatrixFact.{MatrixFact}
 use Rattle.certificate_checker.specs.Extents.{no_cover, cover_at, covered_by, ordered, joined_facts, matrix_rules, ExtentsStand, AreInRange, IsMatrixModel, IsTrueMatrix}
 use Rattle.certificate_checker.specs.OrderLaws.{read_is, eq_is, stand_weak}

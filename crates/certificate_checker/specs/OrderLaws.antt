@@ -15,8 +15,8 @@ use Rattle.order_laws.specs.Tables.{IsPoint, IsOrderSet}
 use Rattle.order_laws.proofs.Hold.{stand_twice}
 use Rattle.proof_core.specs.Rules.{Rules, KeepsTruth}
 use Rattle.certificate_checker.specs.declared.order_theory.OrderFact.{OrderFact}
-use Rattle.certificate_checker.specs.declared.rules.Weaken.{Weaken}
-use Rattle.certificate_checker.specs.declared.rules.Join.{Join}
+use Rattle.certificate_reader.specs.declared.rules.Weaken.{Weaken}
+use Rattle.certificate_reader.specs.declared.rules.Join.{Join}
 use Rattle.certificate_checker.specs.Orders.{said_by, weakened, joined_facts, order_rules, IsTrueOrder}
 
 pub stand_weak : (b : Bool) (p q : Position) → Stand b p q → Stand false p q

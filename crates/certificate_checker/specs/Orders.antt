@@ -6,8 +6,8 @@ use Rattle.order_laws.specs.Tables.{IsPoint}
 use Rattle.order_laws.specs.Placings.{AlwaysStand}
 use Rattle.proof_core.specs.Rules.{Rules}
 use Rattle.certificate_checker.specs.declared.order_theory.OrderFact.{OrderFact}
-use Rattle.certificate_checker.specs.declared.rules.Weaken.{Weaken}
-use Rattle.certificate_checker.specs.declared.rules.Join.{Join}
+use Rattle.certificate_reader.specs.declared.rules.Weaken.{Weaken}
+use Rattle.certificate_reader.specs.declared.rules.Join.{Join}
 
 -- what an order says
 abbrev pub said_by : Option Order → Option OrderFact

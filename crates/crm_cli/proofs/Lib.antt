@@ -1,4 +1,1 @@
-pub mod OrderSteps
-pub mod OrdersText
 pub mod Endings
-pub mod Steps

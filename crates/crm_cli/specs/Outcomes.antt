@@ -1,14 +1,21 @@
 -- What a run does to its sink, and how it ends.
-use Rattle.std.specs.Prelude.{◌≡◌, ◌⊎◌, ℕ, List, Option, Some, None, codes}
+use Rattle.std.specs.Prelude.{◌≡◌, ◌⊎◌, ℕ, List, Option, Some, None, Result, Ok, Err, IfSome}
 use Rattle.crm_outside.specs.Printing.{Printed, Broken}
 use Rattle.crm_outside.specs.declared.printing.PrintFault.TheVariants.{Failed, Memory as NoMemory}
-use Rattle.crm_cli.specs.declared.status.Status.{Status}
-use Rattle.crm_cli.specs.declared.status.Status.TheVariants.{Done, Findings, Refused, Usage, ReadFault, WriteFault, Memory}
-use Rattle.crm_cli.specs.declared.orders.OrdersFault.{OrdersFault}
-use Rattle.crm_cli.specs.declared.orders.OrdersFault.TheVariants.{NoStatement, Memory as Starved}
+use Rattle.crm_core.specs.declared.status.Status.{Status}
+use Rattle.crm_core.specs.declared.status.Status.TheVariants.{Done, Findings, Refused, Usage, ReadFault, WriteFault, Memory}
+use Rattle.crm_core.specs.declared.status.ReportFault.{ReportFault}
+use Rattle.crm_core.specs.declared.status.ReportFault.TheVariants as report
+use Rattle.crm_core.specs.Reports.{Report}
 use Rattle.crm_cli.specs.declared.words.Command.{Command}
 use Rattle.crm_cli.specs.Words.{file_of}
-use Rattle.crm_cli.specs.Report.{Report, read_fault_report, refused}
+use Rattle.crm_cli.specs.Report.{read_fault_report}
+
+-- the status of a report that was written, or broke off
+abbrev pub ended : Result Status ReportFault → Status
+ended (Ok status) = status
+ended (Err report.Failed) = WriteFault
+ended (Err report.Memory) = Memory
 
 module _ {S : Type 0} (written : S → Option (List ℕ)) (faults sure : S → ℕ) (old new : S) where
   -- the whole text at its own status, and a front of it where the sink failed or memory was wanting
@@ -21,6 +28,10 @@ module _ {S : Type 0} (written : S → Option (List ℕ)) (faults sure : S → �
   Outcome r WriteFault = Broken written faults sure old new r.text Failed
   Outcome r Memory = Broken written faults sure old new r.text NoMemory
 
+  -- so it is with the report, where it is told
+  abbrev pub Ends : Option Report → Status → Type 0
+  Ends o status = IfSome o (λ r. Outcome r status)
+
   -- the whole text with its own status, or want of memory
   abbrev pub IsComplete : Report → Status → Type 0
   IsComplete r status = (status ≡ Memory) ⊎ ((status ≡ r.status) × Printed written faults sure old new r.text)
@@ -29,8 +40,3 @@ module _ {S : Type 0} (written : S → Option (List ℕ)) (faults sure : S → �
   abbrev pub Faulted : Type 0 → Option Command → Status → Type 0
   Faulted rose None status = ⊥
   Faulted rose (Some command) status = rose × Outcome (read_fault_report (file_of command)) status
-
-  -- what is printed where there is no list of orders
-  abbrev pub FaultOutcome : OrdersFault → Status → Type 0
-  FaultOutcome (NoStatement at) status = Outcome (refused (codes "N2") at) status
-  FaultOutcome Starved status = (r : Report) → Outcome r status

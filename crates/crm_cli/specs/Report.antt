@@ -1,56 +1,48 @@
 -- The whole text that words and files give, with its status.
-use Rattle.std.specs.Prelude.{ℕ, ◌++◌, List, length, Option, Some, None, Result, Ok, Err, if◌then◌else◌, codes, nat_lt}
-use Rattle.rdf_terms.specs.declared.terms.Term.{Term}
-use Rattle.rdf_terms.specs.Naming.{NameLists}
-use Rattle.order_laws.specs.declared.Order.{Order}
+use Rattle.std.specs.Prelude.{ℕ, ◌++◌, List, Option, Some, None, codes}
+use Rattle.rdf_terms.specs.declared.triples.Records.{Records}
 use Rattle.crm_outside.specs.Shelves.{Files}
 use Rattle.ntriples_reader.specs.Answers.{Answer}
 use Rattle.ntriples_reader.specs.Answers.Answer.{Refuse, Read}
-use Rattle.ntriples_reader.specs.Feeding.{answer}
-use Rattle.crm_cli.specs.declared.status.Status.{Status}
-use Rattle.crm_cli.specs.declared.status.Status.TheVariants.{Done, Refused, Usage, ReadFault}
+use Rattle.crm_core.specs.declared.status.Status.TheVariants.{Usage, ReadFault}
+use Rattle.crm_core.specs.Files.{file_answer, is_ntriples}
+use Rattle.crm_core.specs.Reports.{Report, orders_report, check_report, convert_report, refusal_report}
 use Rattle.crm_cli.specs.declared.words.Command.{Command}
+use Rattle.crm_cli.specs.declared.words.Command.TheVariants.{Orders, Check, Convert}
 use Rattle.crm_cli.specs.Words.{command_of, file_of}
-use Rattle.crm_cli.specs.Extents.{extents_of}
-use Rattle.crm_cli.specs.Statements.{orders_from, extent_orders}
-use Rattle.crm_cli.specs.Texts.{orders_text, usage_text, read_fault_text, refusal_text, code_name}
 
--- how a run ends, and what it prints
-pub record Report : Type 0 where
-  pub status : Status
-  pub text : List ℕ
-
-abbrev pub refused : List ℕ → ℕ → Report
-refused code at = record { status = Refused; text = refusal_text code at }
-
--- of the orders of the triples, or of the place of the first triple that is no statement
-abbrev pub orders_report : NameLists → List Term → Result (List Order) ℕ → Report
-orders_report names extents (Ok orders) = record { status = Done; text = orders_text names extents (orders ++ extent_orders 0 extents) }
-orders_report names extents (Err at) = refused (codes "N2") at
+-- of the records of a file
+abbrev pub records_report : Command → Records → Report
+records_report (Orders base file) r = orders_report r
+records_report (Check base file) r = check_report r
+records_report (Convert base file) r = convert_report r
 
 -- of the records of a file, or of its refusal
-abbrev pub answer_report : Answer → Report
-answer_report (Read r) = orders_report r.names (extents_of r.triples) (orders_from r.names (extents_of r.triples) 0 r.triples)
-answer_report (Refuse code at) = refused (code_name code) at
+abbrev pub answer_report : Command → Answer → Report
+answer_report command (Read r) = records_report command r
+answer_report command (Refuse code at) = refusal_report (record { code = code; at = at })
 
--- of the bytes of a file
-unfoldable pub bytes_report : List ℕ → Report
-bytes_report bytes = if nat_lt 67108864 (length bytes) then refused (codes "L1") 67108864 else answer_report (answer bytes)
+abbrev pub told_report : Command → Option Answer → Option Report
+told_report command None = None
+told_report command (Some a) = Some (answer_report command a)
+
+abbrev pub read_fault_text : List ℕ → List ℕ
+read_fault_text name = codes "read fault " ++ (name ++ codes "\n")
 
 abbrev pub read_fault_report : List ℕ → Report
 read_fault_report name = record { status = ReadFault; text = read_fault_text name }
 
--- of a file by its name, and its bytes where the name is held
-abbrev pub file_report : List ℕ → Option (List ℕ) → Report
-file_report name None = read_fault_report name
-file_report name (Some bytes) = bytes_report bytes
+-- of a file by its name, and its bytes where the name is held; none is told where no answer to the bytes is
+abbrev pub file_report : Command → List ℕ → Option (List ℕ) → Option Report
+file_report command name None = Some (read_fault_report name)
+file_report command name (Some bytes) = told_report command (file_answer (is_ntriples name) bytes)
 
 abbrev pub usage_report : Report
-usage_report = record { status = Usage; text = usage_text }
+usage_report = record { status = Usage; text = codes "usage: crm_cli COMMAND [--base IRI] WORDS\n" }
 
-abbrev pub command_report : Option Command → Files → Report
-command_report None files = usage_report
-command_report (Some command) files = file_report (file_of command) (files (file_of command))
+abbrev pub command_report : Option Command → Files → Option Report
+command_report None files = Some usage_report
+command_report (Some command) files = file_report command (file_of command) (files (file_of command))
 
-abbrev pub report : List (List ℕ) → Files → Report
+abbrev pub report : List (List ℕ) → Files → Option Report
 report words files = command_report (command_of words) files

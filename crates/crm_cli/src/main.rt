@@ -1,14 +1,8 @@
-//! A temporal reasoner over CIDOC CRM records: reads N-Triples that state the eight temporal primitives, and prints the
-//! orders between the starts and the ends of their periods.
+//! A temporal reasoner over CIDOC CRM records: checks the use of classes and properties, and prints the orders between
+//! the starts and the ends of periods.
 #![tactic(auto)]
 
-mod extents;
-mod lines;
-mod orders;
-mod report;
 mod run;
-mod statements;
-mod status;
 #[cfg(test)]
 mod tests;
 mod words;
@@ -17,7 +11,7 @@ ghost use Rattle.std.specs.Prelude.{◌≡◌};
 ghost use Rattle.crm_cli.specs.Exits.{exit_status};
 
 use crate::run::run;
-use crate::status::Status;
+use crm_core::Status;
 use crm_outside::{DirShelf, StdSink};
 use std::process::ExitCode;
 use std::rt::Env;

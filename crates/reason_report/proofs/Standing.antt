@@ -24,7 +24,7 @@ use Rattle.order_core.specs.declared.primitives.Primitive.TheVariants.{P173, P17
 use Rattle.reason_report.specs.declared.sides.Side.{Side}
 use Rattle.reason_report.specs.declared.sides.Side.TheVariants.{StartEnd, StartStart, EndStart, EndEnd}
 use Rattle.reason_report.specs.declared.sides.Relation.{Relation}
-use Rattle.reason_report.specs.Answers.{is_enough}
+use Rattle.reason_report.specs.Answers.{is_enough, is_following}
 use Rattle.reason_report.specs.Listings.{side_of, IsListed}
 use Rattle.reason_report.specs.Reason.{reason_of}
 use Rattle.reason_report.specs.Relations.{left_point, right_point, reach_at, relations_of}
@@ -129,6 +129,25 @@ listed_chain orders periods r h =
     subst P (sym one.shown.says)
     (reason_there orders x y
     (chain_found orders x y (apart_points one.shown.side one.left one.right one.apart) one.shown.known (is_strict (reach_between orders x y)) refl))
+
+points_apart : (p : Primitive) (a b : ℕ) → a ≢ b → (points_of p a b).0 ≡ (points_of p a b).1 → ⊥
+points_apart P173 a b apart e = apart_points StartEnd a b apart e
+points_apart P174 a b apart e = apart_points StartEnd a b apart e
+points_apart P175 a b apart e = apart_points StartStart a b apart e
+points_apart P176 a b apart e = apart_points StartStart a b apart e
+points_apart P182 a b apart e = apart_points EndStart a b apart e
+points_apart P183 a b apart e = apart_points EndStart a b apart e
+points_apart P184 a b apart e = apart_points EndEnd a b apart e
+points_apart P185 a b apart e = apart_points EndEnd a b apart e
+
+pub answer_chain : (orders : List Order) (a : ℕ) (p : Primitive) (b : ℕ) → a ≢ b → is_following orders a p b ≡ true
+    → IsChainOf orders (points_of p a b).0 (points_of p a b).1 (reason_of orders (points_of p a b).0 (points_of p a b).1)
+answer_chain orders a p b apart e =
+    let x : Point = (points_of p a b).0 in
+    let y : Point = (points_of p a b).1 in
+    let known : is_known (reach_between orders x y) ≡ true =
+    known_of (points_of p a b).2 (reach_between orders x y) (sym (enough_has (points_of p a b).2 (reach_between orders x y)) ∙ e) in
+    reason_there orders x y (chain_found orders x y (points_apart p a b apart) known (is_strict (reach_between orders x y)) refl)
 
 loop_option : (o : Option Point) → (o ≡ None) ⊎ ((x : Point) × (o ≡ Some x))
 loop_option None = inl refl

@@ -1,7 +1,7 @@
 // Laws over the report: each is the contract of a function with nothing to do.
-ghost use Rattle.std.specs.Prelude.{◌≡◌, ◌≢◌, ◌<◌, ◌↔◌, ℕ, List, None, true};
+ghost use Rattle.std.specs.Prelude.{◌≡◌, ◌≢◌, ◌<◌, ◌↔◌, ℕ, List, None, true, false};
 ghost use Rattle.std.specs.List.{Contains};
-ghost use Rattle.order_laws.specs.Chains.{HasCycle, IsChain};
+ghost use Rattle.order_laws.specs.Chains.{HasCycle};
 ghost use Rattle.order_laws.specs.FirstChains.{IsChainOf};
 ghost use Rattle.order_laws.specs.Placings.{IsSatisfied, IsConsistent, AlwaysStand, position_at};
 ghost use Rattle.order_laws.specs.Positions.{Stand};
@@ -55,10 +55,22 @@ pub fn delaying_placings_break_what_is_not_listed()
 {}
 
 /// For orders without a cycle the answer is `holds` exactly where every placing that satisfies the orders has
-/// the primitive.
+/// the primitive, and then the chain between its two points is that of a listed relation. Else the delaying
+/// placing of the left boundary satisfies the orders and breaks the primitive.
 pub fn answers_hold_where_every_placing_does()
-    ensures { (set : Orders) (a : ℕ) (p : Primitive) (b : ℕ) →
+    ensures holds { (set : Orders) (a : ℕ) (p : Primitive) (b : ℕ) →
         IsOrderSet set.list set.extents set.dates → ¬ HasCycle set.list → a < set.extents → b < set.extents →
         (is_following set.list a p b ≡ true)
         ↔ AlwaysStand set.list set.dates set.extents (points_of p a b).0 (points_of p a b).1 (points_of p a b).2 }
+    ensures chain { (set : Orders) (a : ℕ) (p : Primitive) (b : ℕ) → a ≢ b → is_following set.list a p b ≡ true →
+        IsChainOf set.list (points_of p a b).0 (points_of p a b).1 (reason_of set.list (points_of p a b).0 (points_of p a b).1) }
+    ensures satisfied { (set : Orders) (a : ℕ) (p : Primitive) (b : ℕ) →
+        IsOrderSet set.list set.extents set.dates → ¬ HasCycle set.list → a < set.extents →
+        IsSatisfied set.list set.dates (delaying_placing set.list set.extents set.dates (points_of p a b).0) }
+    ensures broken { (set : Orders) (a : ℕ) (p : Primitive) (b : ℕ) →
+        IsOrderSet set.list set.extents set.dates → ¬ HasCycle set.list → a < set.extents → b < set.extents →
+        is_following set.list a p b ≡ false →
+        ¬ Stand (points_of p a b).2
+        (position_at set.dates (delaying_placing set.list set.extents set.dates (points_of p a b).0) (points_of p a b).0)
+        (position_at set.dates (delaying_placing set.list set.extents set.dates (points_of p a b).0) (points_of p a b).1) }
 {}

@@ -1,6 +1,6 @@
 use Rattle.std.proofs.Common.{◌∙◌, subst, List, ℕ}
 use Rattle.crm_cli.specs.Outcomes.{Outcome}
-use Rattle.crm_cli.specs.declared.status.Status.TheVariants.{ReadFault}
+use Rattle.crm_core.specs.declared.status.Status.TheVariants.{ReadFault}
 use Rattle.crm_cli.proofs.run.print_read_fault.Goals as goal
 
 pub returns-in-Ok : goal.returns-in-Ok

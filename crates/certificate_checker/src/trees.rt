@@ -1,0 +1,60 @@
+// What trees conclude, and the places of what is wrong with them.
+ghost use Rattle.std.specs.Prelude.{◌≡◌, ◌<◌, ◌≤◌, ◌^◌, None, IfOk, OnOk, length};
+ghost use Rattle.proof_core.specs.Proofs.{Concludes, node_count};
+
+use crate::{CertRefusal, Verdict};
+use certificate_reader::Notes;
+use proof_core::{BadAt, Proof, Theory, check};
+
+/// The refusal of a node, whose place stands among those of its tree.
+pub(crate) fn bad_node(places: &[usize], bad: BadAt) -> CertRefusal {
+    match places.get(bad.node as usize) {
+        Some(place) => CertRefusal::K4(*place as u64),
+        None => CertRefusal::K4(0),
+    }
+}
+
+/// What a tree concludes, or the refusal of its first bad node.
+pub(crate) fn concluded<T: Theory>(
+    theory: &T,
+    proof: &Proof<T::Leaf, T::Rule1, T::Rule2>,
+    places: &[usize],
+) -> Result<T::Fact, CertRefusal>
+    requires { node_count proof.now < 2 ^ 32 }
+    ensures concludes { IfOk result (λ f. Concludes (T.rules theory.now) proof.now f) }
+    ensures is_true { IfOk result (λ f. T.IsTrueIn theory.now f) }
+{
+    match check(theory, proof) {
+        Ok(fact) => Ok(fact),
+        Err(bad) => Err(bad_node(places, bad)),
+    }
+}
+
+/// The refusal of a tree that concludes another fact than is asked for: at its root, which comes last.
+pub(crate) fn misfit(places: &[usize]) -> CertRefusal {
+    match places.last() {
+        Some(place) => CertRefusal::K4(*place as u64),
+        None => CertRefusal::K4(0),
+    }
+}
+
+/// K3 where a name was noted that nothing has.
+pub(crate) fn check_names(notes: &Notes) -> Result<(), CertRefusal>
+    ensures { OnOk result (notes.now.unknown ≡ None) }
+{
+    match notes.unknown {
+        Some(place) => Err(CertRefusal::K3(place as u64)),
+        None => Ok(()),
+    }
+}
+
+/// The verdict at the end of the last line, behind which nothing may stand.
+pub(crate) fn ended(text: &[u8], to: usize, verdict: Verdict) -> Result<Verdict, CertRefusal>
+    ensures { IfOk result (λ v. (v ≡ verdict) × (length text.now ≤ to)) }
+{
+    if to < text.len() {
+        Err(CertRefusal::K1(to as u64))
+    } else {
+        Ok(verdict)
+    }
+}

@@ -1,0 +1,222 @@
+// The leaves of trees, and what is noted where they are read.
+ghost use Rattle.std.specs.Prelude.{◌≡◌, ◌<◌, ◌≤◌, ◌∷◌, [], None, Some, IfOk, IfSome, List, ℕ, length};
+ghost use Rattle.std.specs.Fmt.{decimal};
+ghost use Rattle.certificate_reader.specs.Reads.{IsRead};
+ghost use Rattle.crm_classes.specs.Classes.{code_text};
+
+use crate::CertRefusal;
+use crate::words::{Found, read_number, read_word, stands_at};
+use crm_classes::{ClassId, class_of_bytes};
+use proof_core::SharedLeaf;
+use std::alloc::Global;
+
+/// What is noted where a line is read: the place of its first name that nothing has, and the places of the
+/// nodes of its trees, each tree in post-order.
+#[derive(Drop)]
+pub struct Notes {
+    pub unknown: Option<usize>,
+    pub places: Vec<usize>,
+}
+
+impl Notes {
+    /// Notes of nothing.
+    pub fn new(alloc: Global) -> Notes
+        ensures unknown { result.unknown ≡ None }
+        ensures places { result.places.items ≡ [] }
+    {
+        Notes {
+            unknown: None,
+            places: Vec::new(alloc),
+        }
+    }
+
+    // Notes that nothing has the name at this place.
+    fn note_unknown(&mut self, at: usize)
+        ensures noted { ¬ (self.new.unknown ≡ None) }
+        ensures places { self.new.places ≡ self.old.places }
+    {
+        if self.unknown.is_none() {
+            self.unknown = Some(at);
+        }
+    }
+}
+
+/// A form of leaves, with the text of each leaf.
+pub trait LeafForm: Drop {
+    /// What a leaf says.
+    type Leaf: Drop;
+
+    /// How a leaf is spelled.
+    ghost text_of: { Self.Leaf → List ℕ };
+
+    /// Reads the leaf that stands here. Where it names what isn't there, this is noted, and the leaf may be
+    /// another.
+    fn read_leaf(
+        &self,
+        text: &[u8],
+        at: usize,
+        notes: &mut Notes,
+    ) -> Result<Found<Self::Leaf>, CertRefusal>
+        requires { at ≤ length text.now }
+        ensures sticky { notes.new.unknown ≡ None → notes.old.unknown ≡ None }
+        ensures places { notes.new.places ≡ notes.old.places }
+        ensures moves { IfOk result (λ f. (at < f.to) × (f.to ≤ length text.now)) }
+        ensures read { notes.new.unknown ≡ None → IfOk result (λ f. IsRead text.now at f.to (text_of f.value)) };
+}
+
+/// A letter and a number, which is the name of something where it is below the limit.
+pub(crate) fn read_name(
+    text: &[u8],
+    at: usize,
+    letter: u8,
+    limit: u32,
+    notes: &mut Notes,
+) -> Result<Found<u32>, CertRefusal>
+    ensures sticky { notes.new.unknown ≡ None → notes.old.unknown ≡ None }
+    ensures places { notes.new.places ≡ notes.old.places }
+    ensures moves { IfOk result (λ f. at < f.to) }
+    ensures known { notes.new.unknown ≡ None → IfOk result (λ f. f.value < limit) }
+    ensures read { IfOk result (λ f. IsRead text.now at f.to (letter ∷ decimal f.value)) }
+{
+    if !stands_at(text, at, letter) {
+        return Err(CertRefusal::K1(at as u64));
+    }
+    let found = read_number(text, at + 1)?;
+    if found.value >= limit {
+        notes.note_unknown(at);
+    }
+    Ok(found)
+}
+
+/// Orders `oN` below a count, and where there are `let` lines what they keep, `lN` below a count.
+#[derive(Drop)]
+pub struct OrderLeaves {
+    pub orders: u32,
+    pub kept: Option<u32>,
+}
+
+impl LeafForm for OrderLeaves {
+    ghost use Rattle.certificate_reader.specs.TreeTexts.{shared_leaf};
+
+    type Leaf = SharedLeaf<u32>;
+
+    ghost text_of = { shared_leaf };
+
+    fn read_leaf(
+        &self,
+        text: &[u8],
+        at: usize,
+        notes: &mut Notes,
+    ) -> Result<Found<SharedLeaf<u32>>, CertRefusal> {
+        if let Some(kept) = self.kept
+            && stands_at(text, at, b'l')
+        {
+            let found = read_name(text, at, b'l', kept, notes)?;
+            return Ok(Found {
+                value: SharedLeaf::Earlier(found.value),
+                to: found.to,
+            });
+        }
+        let found = read_name(text, at, b'o', self.orders, notes)?;
+        Ok(Found {
+            value: SharedLeaf::Own(found.value),
+            to: found.to,
+        })
+    }
+}
+
+/// Covers `cN` below a count.
+#[derive(Drop)]
+pub struct CoverLeaves {
+    pub covers: u32,
+}
+
+impl LeafForm for CoverLeaves {
+    ghost use Rattle.certificate_reader.specs.TreeTexts.{cover_leaf};
+
+    type Leaf = u32;
+
+    ghost text_of = { cover_leaf };
+
+    fn read_leaf(
+        &self,
+        text: &[u8],
+        at: usize,
+        notes: &mut Notes,
+    ) -> Result<Found<u32>, CertRefusal> {
+        read_name(text, at, b'c', self.covers, notes)
+    }
+}
+
+/// `low` is `high` or below it.
+#[derive(Clone, Copy, PartialEq, Eq, Debug)]
+pub struct ClassFact {
+    pub low: ClassId,
+    pub high: ClassId,
+}
+
+// The text of a code that no class has is that of no class, so None says nothing of it.
+/// A class code, `E` or `A` and a number; None where no class has it.
+pub(crate) fn read_code(text: &[u8], at: usize) -> Result<Found<Option<ClassId>>, CertRefusal>
+    ensures moves { IfOk result (λ f. (at < f.to) × (f.to ≤ length text.now)) }
+    ensures read { IfOk result (λ f. IfSome f.value (λ c. IsRead text.now at f.to (code_text c))) }
+{
+    if !stands_at(text, at, b'E') && !stands_at(text, at, b'A') {
+        return Err(CertRefusal::K1(at as u64));
+    }
+    let found = read_number(text, at + 1)?;
+    Ok(Found {
+        value: class_of_bytes(&text[at..found.to]),
+        to: found.to,
+    })
+}
+
+fn read_class(text: &[u8], at: usize, notes: &mut Notes) -> Result<Found<ClassId>, CertRefusal>
+    ensures sticky { notes.new.unknown ≡ None → notes.old.unknown ≡ None }
+    ensures places { notes.new.places ≡ notes.old.places }
+    ensures moves { IfOk result (λ f. (at < f.to) × (f.to ≤ length text.now)) }
+    ensures read { notes.new.unknown ≡ None → IfOk result (λ f. IsRead text.now at f.to (code_text f.value)) }
+{
+    let found = read_code(text, at)?;
+    let value = match found.value {
+        Some(class) => class,
+        None => {
+            notes.note_unknown(at);
+            ClassId::from_number(0)
+        }
+    };
+    Ok(Found {
+        value,
+        to: found.to,
+    })
+}
+
+/// Two classes, `CODE.CODE`.
+#[derive(Drop)]
+pub struct ClassLeaves;
+
+impl LeafForm for ClassLeaves {
+    ghost use Rattle.certificate_reader.specs.ClassTexts.{class_leaf_text};
+
+    type Leaf = ClassFact;
+
+    ghost text_of = { class_leaf_text };
+
+    fn read_leaf(
+        &self,
+        text: &[u8],
+        at: usize,
+        notes: &mut Notes,
+    ) -> Result<Found<ClassFact>, CertRefusal> {
+        let low = read_class(text, at, notes)?;
+        let behind = read_word(text, low.to, b".")?;
+        let high = read_class(text, behind, notes)?;
+        Ok(Found {
+            value: ClassFact {
+                low: low.value,
+                high: high.value,
+            },
+            to: high.to,
+        })
+    }
+}

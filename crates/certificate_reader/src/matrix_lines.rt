@@ -1,0 +1,163 @@
+// The lines of a certificate of a matrix.
+ghost use Rattle.std.specs.Prelude.{◌≡◌, ◌<◌, ◌≤◌, ◌+◌, ◌++◌, ◌∷◌, [], None, IfOk, length};
+ghost use Rattle.certificate_reader.specs.Reads.{IsRead};
+ghost use Rattle.certificate_reader.specs.MatrixTexts.{extents_text, matrix_line_text, matrix_line_places, matrix_line_nodes, HasExtents};
+
+use crate::leaves::read_name;
+use crate::trees::DEPTH;
+use crate::{
+    CertRefusal, CoverLeaves, Found, Join, Notes, OrderLeaves, OrderProof, Weaken, byte_at,
+    read_tree, read_word,
+};
+use proof_core::Proof;
+use std::alloc::Global;
+
+/// One extent ends at or before the start of another.
+#[derive(Clone, Copy, PartialEq, Eq, Debug)]
+pub struct Cover {
+    pub first: u32,
+    pub second: u32,
+}
+
+/// A tree over covers.
+pub type WalkProof = Proof<u32, Weaken, Join>;
+
+/// A line of a certificate of a matrix.
+#[derive(Drop)]
+pub enum MatrixLine {
+    Cover(Cover, OrderProof),
+    Walk(Cover, WalkProof),
+    End,
+}
+
+// Two extents.
+fn read_extents(
+    text: &[u8],
+    at: usize,
+    extents: u32,
+    notes: &mut Notes,
+) -> Result<Found<Cover>, CertRefusal>
+    ensures sticky { notes.new.unknown ≡ None → notes.old.unknown ≡ None }
+    ensures places { notes.new.places ≡ notes.old.places }
+    ensures known { notes.new.unknown ≡ None → IfOk result (λ f. (f.value.first < extents) × (f.value.second < extents)) }
+    ensures read { IfOk result (λ f. IsRead text.now at f.to (extents_text f.value)) }
+{
+    let first = read_name(text, at, b'x', extents, notes)?;
+    let between = read_word(text, first.to, b" ")?;
+    let second = read_name(text, between, b'x', extents, notes)?;
+    Ok(Found {
+        value: Cover {
+            first: first.value,
+            second: second.value,
+        },
+        to: second.to,
+    })
+}
+
+fn read_cover(
+    alloc: Global,
+    orders: u32,
+    extents: u32,
+    text: &[u8],
+    at: usize,
+    notes: &mut Notes,
+) -> Result<Found<MatrixLine>, CertRefusal>
+    requires { at ≤ length text.now }
+    ensures moves { IfOk result (λ f. (at + matrix_line_nodes f.value ≤ f.to) × (f.to ≤ length text.now)) }
+    ensures known { notes.new.unknown ≡ None → IfOk result (λ f. HasExtents extents f.value) }
+    ensures read { notes.new.unknown ≡ None → IfOk result (λ f. IsRead text.now at f.to (matrix_line_text f.value)) }
+    ensures places { notes.new.unknown ≡ None → IfOk result (λ f. notes.new.places.items ≡ notes.old.places.items ++ matrix_line_places f.value at) }
+{
+    let begun = read_word(text, at, b"cover ")?;
+    let pair = read_extents(text, begun, extents, notes)?;
+    let behind = read_word(text, pair.to, b" ")?;
+    let leaves = OrderLeaves { orders, kept: None };
+    let tree = read_tree(alloc, &leaves, text, behind, DEPTH, notes)?;
+    Ok(Found {
+        value: MatrixLine::Cover(pair.value, tree.value),
+        to: tree.to,
+    })
+}
+
+fn read_walk(
+    alloc: Global,
+    covers: u32,
+    extents: u32,
+    text: &[u8],
+    at: usize,
+    notes: &mut Notes,
+) -> Result<Found<MatrixLine>, CertRefusal>
+    requires { at ≤ length text.now }
+    ensures moves { IfOk result (λ f. (at + matrix_line_nodes f.value ≤ f.to) × (f.to ≤ length text.now)) }
+    ensures known { notes.new.unknown ≡ None → IfOk result (λ f. HasExtents extents f.value) }
+    ensures read { notes.new.unknown ≡ None → IfOk result (λ f. IsRead text.now at f.to (matrix_line_text f.value)) }
+    ensures places { notes.new.unknown ≡ None → IfOk result (λ f. notes.new.places.items ≡ notes.old.places.items ++ matrix_line_places f.value at) }
+{
+    let begun = read_word(text, at, b"walk ")?;
+    let pair = read_extents(text, begun, extents, notes)?;
+    let behind = read_word(text, pair.to, b" ")?;
+    let leaves = CoverLeaves { covers };
+    let tree = read_tree(alloc, &leaves, text, behind, DEPTH, notes)?;
+    Ok(Found {
+        value: MatrixLine::Walk(pair.value, tree.value),
+        to: tree.to,
+    })
+}
+
+// A line without its line feed.
+fn read_matrix_form(
+    alloc: Global,
+    known: &Counts,
+    text: &[u8],
+    at: usize,
+    notes: &mut Notes,
+) -> Result<Found<MatrixLine>, CertRefusal>
+    requires { at ≤ length text.now }
+    ensures moves { IfOk result (λ f. (at + matrix_line_nodes f.value ≤ f.to) × (f.to ≤ length text.now)) }
+    ensures known { notes.new.unknown ≡ None → IfOk result (λ f. HasExtents known.now.extents f.value) }
+    ensures read { notes.new.unknown ≡ None → IfOk result (λ f. IsRead text.now at f.to (matrix_line_text f.value)) }
+    ensures places { notes.new.unknown ≡ None → IfOk result (λ f. notes.new.places.items ≡ notes.old.places.items ++ matrix_line_places f.value at) }
+{
+    match byte_at(text, at) {
+        Some(b'c') => read_cover(alloc, known.orders, known.extents, text, at, notes),
+        Some(b'w') => read_walk(alloc, known.covers, known.extents, text, at, notes),
+        _ => {
+            let to = read_word(text, at, b"end")?;
+            Ok(Found {
+                value: MatrixLine::End,
+                to,
+            })
+        }
+    }
+}
+
+/// How many things the names of a line may name.
+#[derive(Clone, Copy)]
+pub struct Counts {
+    pub orders: u32,
+    pub extents: u32,
+    pub covers: u32,
+}
+
+/// The line that begins here, with its line feed. It is the one that is spelled here, unless it names what isn't
+/// there.
+pub fn read_matrix_line(
+    alloc: Global,
+    known: &Counts,
+    text: &[u8],
+    at: usize,
+    notes: &mut Notes,
+) -> Result<Found<MatrixLine>, CertRefusal>
+    requires { at ≤ length text.now }
+    ensures moves { IfOk result (λ f. (at + matrix_line_nodes f.value < f.to) × (f.to ≤ length text.now)) }
+    ensures known { notes.new.unknown ≡ None → IfOk result (λ f. HasExtents known.now.extents f.value) }
+    ensures read { notes.new.unknown ≡ None → IfOk result (λ f. IsRead text.now at f.to (matrix_line_text f.value ++ 10 ∷ [])) }
+    ensures places { notes.new.unknown ≡ None → IfOk result (λ f. notes.new.places.items ≡ notes.old.places.items ++ matrix_line_places f.value at) }
+{
+    let line = read_matrix_form(alloc, known, text, at, notes)?;
+    let to = read_word(text, line.to, b"\n")?;
+    Ok(Found {
+        value: line.value,
+        to,
+    })
+}

@@ -1,0 +1,85 @@
+-- What a file says, and how it is taken from a shelf.
+use Rattle.std.specs.Prelude.{◌≡◌, ◌≤◌, ℕ, Bool, true, false, List, ◌++◌, length, codes, nat_lt, nat_eq, if◌then◌else◌, Option, Some, None, Result, Ok, Err, ⊤}
+use Rattle.std.specs.List.{ends_with}
+use Rattle.std.specs.Io.KnownBytes.{Consumes, IsAtEnd}
+use Rattle.crm_outside.specs.Shelves.{Files}
+use Rattle.rdf_terms.specs.declared.terms.Code.TheVariants.{L1}
+use Rattle.rdf_terms.specs.declared.terms.Refusal.{Refusal}
+use Rattle.rdf_terms.specs.declared.triples.Records.{Records}
+use Rattle.ntriples_reader.specs.Answers.{Answer}
+use Rattle.ntriples_reader.specs.Answers.Answer.{Refuse, Read}
+use Rattle.ntriples_reader.specs.Feeding.{answer}
+use Rattle.ntriples_reader.specs.declared.lines.ReadRefusal.{ReadRefusal}
+use Rattle.ntriples_reader.specs.declared.lines.ReadRefusal.TheVariants as reading
+use Rattle.crm_core.specs.declared.status.ArchiveFault.{ArchiveFault}
+use Rattle.crm_core.specs.declared.status.ArchiveFault.TheVariants.{Failed, Refused, Memory}
+
+-- A name that ends with `.nt` is that of N-Triples; every other is that of Turtle.
+abbrev pub is_ntriples : List ℕ → Bool
+is_ntriples name = ends_with nat_eq name (codes ".nt")
+
+-- the answer to N-Triples; none is told yet of Turtle
+abbrev pub text_answer : Bool → List ℕ → Option Answer
+text_answer true bytes = Some (answer bytes)
+text_answer false bytes = None
+
+-- That a file is too long counts before all else.
+unfoldable pub file_answer : Bool → List ℕ → Option Answer
+file_answer ntriples bytes = if nat_lt 67108864 (length bytes) then Some (Refuse L1 67108864) else text_answer ntriples bytes
+
+-- The records are those of the answer, and so is the refusal.
+abbrev pub IsAnswer : Result Records ArchiveFault → Answer → Type 0
+IsAnswer (Ok r) a = a ≡ Read r
+IsAnswer (Err (Refused f)) a = a ≡ Refuse f.code f.at
+IsAnswer (Err Failed) a = ⊤
+IsAnswer (Err Memory) a = ⊤
+
+abbrev pub IsTold : Result Records ArchiveFault → Option Answer → Type 0
+IsTold r None = ⊤
+IsTold r (Some a) = IsAnswer r a
+
+-- what a reader says, as what is said of a file
+abbrev pub archived : Result Records ReadRefusal → Result Records ArchiveFault
+archived (Ok r) = Ok r
+archived (Err (reading.Refused f)) = Err (Refused f)
+archived (Err reading.Memory) = Err Memory
+
+-- of a name that is held, with its bytes; no other is read or refused
+abbrev pub AnswersBytes : Bool → Option (List ℕ) → Result Records ArchiveFault → Type 0
+AnswersBytes ntriples (Some bytes) r = IsTold r (file_answer ntriples bytes)
+AnswersBytes ntriples None (Ok r) = ⊥
+AnswersBytes ntriples None (Err (Refused f)) = ⊥
+AnswersBytes ntriples None (Err Failed) = ⊤
+AnswersBytes ntriples None (Err Memory) = ⊤
+
+-- of a shelf that tells its files
+abbrev pub Answers : Option Files → List ℕ → Result Records ArchiveFault → Type 0
+Answers None name r = ⊤
+Answers (Some files) name r = AnswersBytes (is_ntriples name) (files name) r
+
+-- n bytes were taken from the shelf and fed to the reader
+pub record IsFed (start left : Option (List ℕ)) (before now : List ℕ → Option Answer) (n : ℕ) : Type 0 where
+  pub bytes : List ℕ
+  pub count : length bytes ≡ n
+  pub taken : Consumes start left bytes
+  pub fed : (more : List ℕ) → now more ≡ before (bytes ++ more)
+
+-- and nothing is left
+pub record IsFedWhole (start left : Option (List ℕ)) (before now : List ℕ → Option Answer) : Type 0 where
+  pub count : ℕ
+  pub short : count ≤ 67108864
+  pub end : IsAtEnd left
+  pub fed : IsFed start left before now count
+
+-- one byte past the limit was taken, and more may be left
+pub record IsLong (start left : Option (List ℕ)) (f : Refusal) : Type 0 where
+  pub code : f.code ≡ L1
+  pub at : f.at ≡ 67108864
+  pub bytes : List ℕ
+  pub count : length bytes ≡ 67108865
+  pub taken : Consumes start left bytes
+
+abbrev pub IsTakenLong : Option (List ℕ) → Option (List ℕ) → ArchiveFault → Type 0
+IsTakenLong start left (Refused f) = IsLong start left f
+IsTakenLong start left Failed = ⊤
+IsTakenLong start left Memory = ⊤

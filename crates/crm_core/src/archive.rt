@@ -1,0 +1,84 @@
+// A file that was read.
+ghost use Rattle.std.specs.Prelude.{◌≡◌, ◌↔◌, ◌≤◌, true, false, IfSome, IsErrOf, is_some};
+ghost use Rattle.crm_outside.specs.Causes.{Rose};
+ghost use Rattle.crm_outside.specs.Shelves.{held};
+ghost use Rattle.crm_core.specs.Files as spec;
+ghost use Rattle.crm_core.specs.Files.{Answers, IsTold, file_answer};
+
+use crate::ArchiveFault;
+use crate::feeding::feed_file;
+use crm_outside::Shelf;
+use ntriples_reader::{NtReader, ReadRefusal};
+use rdf_terms::Records;
+use std::alloc::Global;
+use std::marker::Model;
+
+/// The names and the triples of a file.
+#[derive(Drop)]
+pub struct Archive {
+    records: Records,
+}
+
+impl Model for Archive {
+    ghost use Rattle.rdf_terms.specs.declared.triples.Records.{Records};
+
+    ghost Value = { Records };
+
+    ghost view = { λ a. a.records };
+}
+
+fn records_of(read: Result<Records, ReadRefusal>) -> Result<Archive, ArchiveFault>
+    ensures { result ≡ spec.archived read }
+{
+    match read {
+        Ok(records) => Ok(Archive { records }),
+        Err(ReadRefusal::Refused(refusal)) => Err(ArchiveFault::Refused(refusal)),
+        Err(ReadRefusal::Memory) => Err(ArchiveFault::Memory),
+    }
+}
+
+// Reads the open file as N-Triples.
+fn read_ntriples<S: Shelf>(alloc: Global, shelf: &mut S) -> Result<Archive, ArchiveFault>
+    ensures answer { IfSome (S.left shelf.old) (λ bytes. IsTold result (file_answer true bytes)) }
+    ensures failed { IsErrOf result ArchiveFault.Failed → Rose (S.faults shelf.old) (S.faults shelf.new) }
+    ensures open { S.honest shelf.old ≡ true → is_some (S.left shelf.old) ≡ true → IsErrOf result ArchiveFault.Failed → ⊥ }
+    ensures later { S.faults shelf.old ≤ S.faults shelf.new }
+    ensures files { S.files shelf.new ≡ S.files shelf.old }
+    ensures honest { S.honest shelf.new ≡ S.honest shelf.old }
+{
+    let Ok(reader) = NtReader::new(alloc) else {
+        return Err(ArchiveFault::Memory);
+    };
+    let fed = match feed_file(shelf, reader) {
+        Ok(fed) => fed,
+        Err(fault) => return Err(fault),
+    };
+    records_of(fed.finish())
+}
+
+impl Archive {
+    /// Reads a file in windows of 4,096 bytes; it is never held whole. A name that ends with `.nt` is that of
+    /// N-Triples.
+    ///
+    /// A refused file is read to its end too, since a text that is too long or is no UTF-8 is refused as that.
+    pub fn read<S: Shelf>(alloc: Global, shelf: &mut S, name: &str) -> Result<Archive, ArchiveFault>
+        ensures answer { Answers (S.files shelf.old) name.now result }
+        ensures failed { IsErrOf result ArchiveFault.Failed → Rose (S.faults shelf.old) (S.faults shelf.new) }
+        ensures missing { S.honest shelf.old ≡ true → (IsErrOf result ArchiveFault.Failed ↔ (is_some (held (S.files shelf.old) name.now) ≡ false)) }
+        ensures later { S.faults shelf.old ≤ S.faults shelf.new }
+        ensures files { S.files shelf.new ≡ S.files shelf.old }
+        ensures honest { S.honest shelf.new ≡ S.honest shelf.old }
+    {
+        let Ok(()) = shelf.open(name) else {
+            return Err(ArchiveFault::Failed);
+        };
+        read_ntriples(alloc, shelf)
+    }
+
+    /// The names and the triples.
+    pub fn records(&self) -> &Records
+        ensures { result.now ≡ self.now }
+    {
+        &self.records
+    }
+}

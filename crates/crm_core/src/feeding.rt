@@ -1,0 +1,72 @@
+// A file fed to a reader in windows.
+ghost use Rattle.std.specs.Prelude.{◌≡◌, ℕ, ◌+◌, ◌^◌, ◌<◌, ◌≤◌, List, ◌++◌, true, length, Option, Some, OnOk, IfOk, IfErr, IsErrOf, is_some};
+ghost use Rattle.crm_outside.specs.Causes.{Rose};
+ghost use Rattle.ntriples_reader.specs.Answers.{Answer};
+ghost use Rattle.ntriples_reader.specs.Feeding.{promised as nt_promised};
+ghost use Rattle.crm_core.specs.Files.{IsFedWhole, IsTakenLong};
+
+use crate::ArchiveFault;
+use crm_outside::{FILE_LIMIT, Shelf};
+use ntriples_reader::NtReader;
+use rdf_terms::{Code, Refusal};
+use std::alloc::AllocError;
+
+/// A reader of bytes that come in pieces, fewer than 2^32 in all.
+pub(crate) trait Feeds {
+    /// How many bytes were fed.
+    ghost count: { Self → ℕ };
+
+    /// The answer where these bytes are still fed, if the reader tells it.
+    ghost promised: { Self → List ℕ → Option Answer };
+
+    /// Takes the next piece.
+    fn feed_piece(&mut self, piece: &[u8]) -> Result<(), AllocError>
+        requires { count self.old + length piece.now < 2 ^ 32 }
+        ensures count { OnOk result (count self.new ≡ count self.old + length piece.now) }
+        ensures answer { OnOk result ((more : List ℕ) → promised self.new more ≡ promised self.old (piece.now ++ more)) };
+}
+
+impl Feeds for NtReader {
+    ghost count = { λ r. r.fed.count };
+
+    ghost promised = { λ r more. Some (nt_promised r more) };
+
+    fn feed_piece(&mut self, piece: &[u8]) -> Result<(), AllocError> {
+        self.feed(piece)
+    }
+}
+
+/// Feeds the open file to its end in windows of 4,096 bytes. A file that is too long is refused, one byte past the limit.
+pub(crate) fn feed_file<S: Shelf, R: Feeds + Drop>(
+    shelf: &mut S,
+    mut reader: R,
+) -> Result<R, ArchiveFault>
+    requires { R.count reader ≡ 0 }
+    ensures whole { IfOk result (λ r. IsFedWhole (S.left shelf.old) (S.left shelf.new) (R.promised reader) (R.promised r)) }
+    ensures long { IfErr result (λ e. IsTakenLong (S.left shelf.old) (S.left shelf.new) e) }
+    ensures failed { IsErrOf result ArchiveFault.Failed → Rose (S.faults shelf.old) (S.faults shelf.new) }
+    ensures open { S.honest shelf.old ≡ true → is_some (S.left shelf.old) ≡ true → IsErrOf result ArchiveFault.Failed → ⊥ }
+    ensures later { S.faults shelf.old ≤ S.faults shelf.new }
+    ensures files { S.files shelf.new ≡ S.files shelf.old }
+    ensures honest { S.honest shelf.new ≡ S.honest shelf.old }
+{
+    let mut window = [0u8; 4096];
+    let mut taken = 0;
+    'take: while taken <= FILE_LIMIT {
+        let room = window.len().min(FILE_LIMIT + 1 - taken);
+        let Ok(count) = shelf.read(&mut window[..room]) else {
+            return Err(ArchiveFault::Failed);
+        };
+        if count == 0 {
+            return Ok(reader);
+        }
+        let Ok(()) = reader.feed_piece(&window[..count]) else {
+            return Err(ArchiveFault::Memory);
+        };
+        taken += count;
+    }
+    Err(ArchiveFault::Refused(Refusal {
+        code: Code::L1,
+        at: FILE_LIMIT as u64,
+    }))
+}

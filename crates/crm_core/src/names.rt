@@ -1,0 +1,44 @@
+// Codes and kinds as they are printed.
+ghost use Rattle.std.specs.Prelude.{◌≡◌};
+ghost use Rattle.crm_core.specs.Names as spec;
+
+use rdf_terms::Code;
+use time_primitive::DateKind;
+
+/// The name of a code.
+pub(crate) fn code_name(code: Code) -> &'static str
+    ensures { result.now ≡ spec.code_name code }
+{
+    match code {
+        Code::U1 => "U1",
+        Code::G1 => "G1",
+        Code::G2 => "G2",
+        Code::G3 => "G3",
+        Code::G4 => "G4",
+        Code::G5 => "G5",
+        Code::G6 => "G6",
+        Code::L1 => "L1",
+        Code::L2 => "L2",
+        Code::L3 => "L3",
+        Code::L4 => "L4",
+        Code::L5 => "L5",
+        Code::L6 => "L6",
+        Code::L7 => "L7",
+        Code::L8 => "L8",
+        Code::L9 => "L9",
+    }
+}
+
+/// The name of a fault of a date.
+pub(crate) fn date_kind_name(kind: DateKind) -> &'static str
+    ensures { result.now ≡ spec.date_kind_name kind }
+{
+    match kind {
+        DateKind::Datatype => "Datatype",
+        DateKind::Form => "Form",
+        DateKind::Year => "Year",
+        DateKind::Day => "Day",
+        DateKind::Fraction => "Fraction",
+        DateKind::Offset => "Offset",
+    }
+}
