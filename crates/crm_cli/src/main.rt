@@ -13,6 +13,7 @@ ghost use Rattle.crm_cli.specs.Exits.{exit_status};
 use crate::run::run;
 use crm_core::Status;
 use crm_outside::{DirShelf, StdSink};
+use gathered_sink::Gathered;
 use std::process::ExitCode;
 use std::rt::Env;
 use std::{env, io};
@@ -41,15 +42,24 @@ fn given_words(rt: &(impl Env + AllocGlobal)) -> io::Result<Vec<String>> {
     Ok(words)
 }
 
+// Does what the words say over the machine's files and its standard output, which is written in large pieces.
+fn run_outside(rt: &HostRuntime, words: &[String]) -> Status {
+    let mut shelf = DirShelf::new(rt);
+    let Ok(mut out) = Gathered::new(rt.alloc(), StdSink::new(rt)) else {
+        return Status::Memory;
+    };
+    let status = run(rt.alloc(), words, &mut shelf, &mut out);
+    match out.finish() {
+        (_, Ok(())) => status,
+        (_, Err(_)) => Status::WriteFault,
+    }
+}
+
 /// Ends with the status of the run, with 6 where there is no memory for the words, and with 7 where the system refuses
 /// them for another cause.
 fn main(rt: HostRuntime) -> ExitCode {
     match given_words(&rt) {
-        Ok(words) => {
-            let mut shelf = DirShelf::new(&rt);
-            let mut out = StdSink::new(&rt);
-            ExitCode::from(exit_code(run(rt.alloc(), words.as_slice(), &mut shelf, &mut out)))
-        }
+        Ok(words) => ExitCode::from(exit_code(run_outside(&rt, words.as_slice()))),
         Err(error) if error.kind() == io::ErrorKind::OutOfMemory => ExitCode::from(6),
         Err(_) => ExitCode::from(7),
     }
