@@ -16,4 +16,5 @@ mod writing;
 pub use archive::Archive;
 pub use reasoning::write_reason;
 pub use status::{ArchiveFault, ReportFault, Status};
-pub use writing::{write_check, write_convert, write_orders, write_refusal};
+pub use survey::{Survey, take_survey};
+pub use writing::{build_dossier, status_of, tell_passed, told, write_check, write_convert, write_orders, write_refusal};

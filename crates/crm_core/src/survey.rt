@@ -10,13 +10,13 @@ use triple_pool::TriplePool;
 
 /// The triples by number, and all their faults.
 #[derive(Drop)]
-pub(crate) struct Survey {
+pub struct Survey {
     pub pool: TriplePool,
     pub faults: Faults,
 }
 
 /// Numbers the triples of a document and finds their faults.
-pub(crate) fn take_survey(alloc: Global, records: &Records) -> Result<Survey, AllocError>
+pub fn take_survey(alloc: Global, records: &Records) -> Result<Survey, AllocError>
     ensures pool { IfOk result (λ s. s.pool.pairs ≡ number_from 0 records.now.triples) }
     ensures faults { IfOk result (λ s. s.faults ≡ faults_in records.now) }
 {

@@ -15,7 +15,8 @@ use crm_type_check::Faults;
 use rdf_terms::{Records, Refusal};
 use std::alloc::Global;
 
-pub(crate) fn told(printed: Result<Status, PrintFault>) -> Result<Status, ReportFault>
+/// The answer of a call that printed a report, by what its printing answered.
+pub fn told(printed: Result<Status, PrintFault>) -> Result<Status, ReportFault>
     ensures { result ≡ spec.told printed }
 {
     match printed {
@@ -25,7 +26,8 @@ pub(crate) fn told(printed: Result<Status, PrintFault>) -> Result<Status, Report
     }
 }
 
-pub(crate) fn status_of(faults: &Faults) -> Status
+/// `Findings` where there is a fault of class, domain, range or date, else `Done`.
+pub fn status_of(faults: &Faults) -> Status
     ensures status { result ≡ spec.status_by faults.now }
     ensures ending { spec.IsEnding result }
 {
@@ -56,8 +58,8 @@ fn tell_count<W: Sink>(alloc: Global, code: &str, n: u32, out: &mut W) -> Result
     Ok(Status::Refused)
 }
 
-/// Tells why there are no orders.
-pub(crate) fn tell_passed<W: Sink>(
+/// Prints the limit that was passed, with the count that passes it: `refused L6 count N`, and likewise L7 and L8.
+pub fn tell_passed<W: Sink>(
     alloc: Global,
     fault: BuildFault,
     out: &mut W,
@@ -95,7 +97,8 @@ fn tell_dossier<W: Sink>(
     Ok(Status::Done)
 }
 
-pub(crate) fn build_dossier(
+/// The extents, dates and orders of the triples without a fault, within the limits of their counts.
+pub fn build_dossier(
     alloc: Global,
     records: &Records,
     survey: &Survey,
