@@ -1,11 +1,11 @@
 -- What a byte does to what is ahead.
-use Rattle.std.proofs.Common.{ℕ, List, [], ◌∷◌, ◌++◌, ◌≡◌, refl, ap, sym, ◌∙◌, subst, append_assoc, take, drop, arith, ◌+◌, ◌<◌}
+use Rattle.std.proofs.Common.{ℕ, List, [], ◌∷◌, ◌++◌, ◌≡◌, refl, ap, sym, ◌∙◌, subst, append_assoc, take, drop, arith, ◌+◌, ◌<◌, ◌≤◌}
 use Rattle.std.proofs.Math.Seq.{take-add}
 use Rattle.std.proofs.lemmas.Bool.{true≢false}
 use Rattle.std.proofs.lemmas.Str.{len_utf8_bounds}
 use Rattle.std.specs.Char.{len_utf8}
 use Rattle.std.specs.Str.{IsUtf8}
-use Rattle.std.specs.Prelude.{Bool, true, false, Option, None, Some, Result, Ok, Err, is_some, is_err, OnOk, OnErr, ◌^◌}
+use Rattle.std.specs.Prelude.{Bool, true, false, Option, None, Some, Result, Ok, Err, is_some, is_err, OnOk, OnErr, ◌^◌, min}
 use Rattle.rdf_chars.specs.Steps.{Fed, fed, said}
 use Rattle.rdf_chars.specs.Utf8.{BeginsUtf8, Pushes}
 use Rattle.rdf_chars.specs.declared.utf8.BadUtf8.{BadUtf8}
@@ -15,9 +15,10 @@ use Rattle.rdf_chars.proofs.Whole.{stays_bad}
 use Rattle.rdf_terms.specs.declared.terms.Refusal.{Refusal}
 use Rattle.turtle_tokens.specs.Widths.{width}
 use Rattle.turtle_tokens.proofs.Widths.{width_push}
+use Rattle.turtle_lexer.proofs.Begun.{begun_none, begun_more, begun_small}
 use Rattle.turtle_tokens.specs.Items.{Kept, items, items_of}
 use Rattle.turtle_lexer.specs.Streams.{Stream, Ahead, by_chars, stream}
-use Rattle.turtle_lexer.specs.Lexing.{Lexing, IsFed, stopped, by_code, IsBad, Knows, HasRoom, IsEmptied}
+use Rattle.turtle_lexer.specs.Lexing.{Lexing, IsFed, stopped, by_code, IsBad, Knows, HasRoom, IsEmptied, IsBegun}
 
 append_nil : (s : List ℕ) → s ++ [] ≡ s
 append_nil [] = refl
@@ -139,3 +140,17 @@ byte_fed l bytes xs i b e f = subst (IsFed l) (append_assoc bytes (take i xs) (b
 pub on_err_by : {A E : Type 0} (r : Result A E) (X : Type 0) → is_err r ≡ true → OnErr r X → X
 on_err_by (Ok x) X e h = absurd (true≢false (sym e))
 on_err_by (Err x) X e h = h
+
+pub begun_whole : (finished : Bool) (bytes : List ℕ) (b c n : ℕ) (bad : Option ℕ) (r : Result (Option ℕ) BadUtf8) → finished ≡ false → r ≡ Ok (Some c) → Pushes (bytes ++ b ∷ []) r
+    → IsBad finished bytes bad → n ≡ 0 → IsBegun bad (bytes ++ b ∷ []) n
+begun_whole finished bytes b c n None r e s p o z = subst (IsBegun None (bytes ++ b ∷ [])) (sym z) (begun_none (bytes ++ b ∷ []) (let q = subst (Pushes (bytes ++ b ∷ [])) s p in (q.0 ++ c ∷ [], q.1)))
+begun_whole finished bytes b c n (Some at) r e s p o z = tt
+
+pub begun_inside : (bytes : List ℕ) (b n m : ℕ) (bad : Option ℕ) (r : Result (Option ℕ) BadUtf8) → r ≡ Ok None → Pushes (bytes ++ b ∷ []) r
+    → IsBegun bad bytes n → m ≡ min (n + 1) 3 → IsBegun bad (bytes ++ b ∷ []) m
+begun_inside bytes b n m None r s p i e =
+    let q = subst (Pushes (bytes ++ b ∷ [])) s p in
+    let more = begun_more bytes b n i q.0 in
+    let small : n + 1 ≤ 3 = begun_small (bytes ++ b ∷ []) (n + 1) more q.1 in
+    subst (IsBegun None (bytes ++ b ∷ [])) (let w : n + 1 ≡ m = omega (arith, e, small) in w) more
+begun_inside bytes b n m (Some at) r s p i e = tt

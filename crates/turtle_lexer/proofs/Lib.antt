@@ -1,2 +1,4 @@
+pub mod Begun
 pub mod Feeding
 pub mod Saying
+pub mod Texts

@@ -1,5 +1,5 @@
 -- A lexer by what it keeps, and what it says.
-use Rattle.std.specs.Prelude.{ℕ, ◌≡◌, ◌+◌, ◌*◌, ◌≤◌, ◌<◌, ◌^◌, ◌⊎◌, Bool, true, false, List, [], Option, None, Some, Ok, ⊤}
+use Rattle.std.specs.Prelude.{ℕ, ◌≡◌, ◌+◌, ◌-◌, ◌*◌, length, ◌≤◌, ◌<◌, ◌^◌, ◌⊎◌, Bool, true, false, List, [], Option, None, Some, Ok, ⊤}
 use Rattle.text_patterns.specs.Machines.{IsOpen}
 use Rattle.std.specs.Str.{IsUtf8}
 use Rattle.rdf_chars.specs.Utf8.{BeginsUtf8, IsUtf8Length}
@@ -41,9 +41,14 @@ abbrev pub Knows : Option ℕ → Bool → Fed → Type 0
 Knows None finished v = finished ≡ true → ended v ≡ Ok tt
 Knows (Some at) finished v = (more : List ℕ) → (finished ≡ true → more ≡ []) → decoded v more ≡ BadAt at
 
+-- So many bytes at the end are of a character that has begun: the longest front that is UTF-8 lacks them.
+abbrev pub IsBegun : Option ℕ → List ℕ → ℕ → Type 0
+IsBegun None bytes n = (n ≤ length bytes) × IsUtf8Length bytes (length bytes - n)
+IsBegun (Some at) bytes n = ⊤
+
 -- the bytes were fed
 abbrev pub IsFed : Lexing → List ℕ → Type 0
-IsFed l bytes = Stands l.fed bytes × IsBad l.finished bytes l.bad
+IsFed l bytes = Stands l.fed bytes × IsBad l.finished bytes l.bad × IsBegun l.bad bytes l.begun
 
 abbrev pub by_code : Code → ℕ → Stream
 by_code L2 at = Overlong at

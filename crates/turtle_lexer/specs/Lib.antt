@@ -1,3 +1,4 @@
 pub mod Values
 pub mod Streams
 pub mod Lexing
+pub mod Texts

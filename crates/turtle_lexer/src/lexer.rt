@@ -239,6 +239,7 @@ impl Lexer {
     pub fn bad_utf8(&self) -> Option<u64>
         ensures bad { result ≡ self.now.bad }
         ensures fed { (bytes : List ℕ) → spec.IsFed self.now bytes → spec.IsBad self.now.finished bytes result }
+        ensures known { spec.Knows result self.now.finished self.now.fed }
     {
         self.bad
     }
@@ -246,7 +247,8 @@ impl Lexer {
     /// How many bytes the characters take that are held and were not given, with those of a character that has begun: at most 65,539
     /// where `next` has answered `More`.
     pub fn kept(&self) -> u32
-        ensures { width self.now.kept.chars < 2 ^ 31 → result ≡ width self.now.kept.chars + self.now.begun }
+        ensures kept { width self.now.kept.chars < 2 ^ 31 → result ≡ width self.now.kept.chars + self.now.begun }
+        ensures begun { self.now.begun ≤ 3 }
     {
         u32::try_from(self.cutter.width() + u64::from(self.begun)).unwrap_or(u32::MAX)
     }

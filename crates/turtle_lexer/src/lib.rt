@@ -1,6 +1,7 @@
 //! The tokens of Turtle, from bytes that come in pieces.
 #![tactic(auto)]
 
+pub mod laws;
 mod lexer;
 #[cfg(test)]
 mod tests;

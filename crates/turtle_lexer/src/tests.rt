@@ -1,6 +1,6 @@
 ghost use Rattle.std.specs.Prelude.{◌<◌, ◌^◌, ◌≡◌, false, length};
 
-use crate::{Lexer, Next, Token, TokenKind};
+use crate::{Lexer, Next, TokenKind};
 use rdf_terms::{Code, Refusal};
 use std::alloc::{AllocError, Global};
 use std::test::Fail;
@@ -37,6 +37,20 @@ fn shape(next: &Next) -> Option<(TokenKind, u64, u64)> {
     }
 }
 
+fn value_of(next: &Next) -> Option<(&str, u32)> {
+    match next {
+        Next::Token(token) => Some((token.text.as_str(), token.cut)),
+        _ => None,
+    }
+}
+
+fn refusal_of(next: &Next) -> Option<Refusal> {
+    match next {
+        Next::Refused(refusal) => Some(*refusal),
+        _ => None,
+    }
+}
+
 #[test]
 fn tokens_have_their_places(rt: HostRuntime) -> Result<(), Fail> {
     for (bytes, n, kind, from, to) in [
@@ -64,5 +78,55 @@ fn tokens_have_their_places(rt: HostRuntime) -> Result<(), Fail> {
             );
         }
     }
+    Ok(())
+}
+
+#[test]
+fn tokens_have_their_values(rt: HostRuntime) -> Result<(), Fail> {
+    for (bytes, value, cut) in [
+        (b"<http://e/\\u0041>".as_slice(), "http://e/A", 0),
+        (b"e\xC3\xA9:a\\-b%20.c ".as_slice(), "e\u{E9}a-b%20.c", 3),
+        (b"'''x\\n'y''' ".as_slice(), "x\n'y", 0),
+        (b"\"\" ".as_slice(), "", 0),
+        (b"_:b.c ".as_slice(), "b.c", 0),
+        (b"@en-GB".as_slice(), "en-GB", 0),
+        (b"-.5E+1 ".as_slice(), "-.5E+1", 0),
+        (b"prefix ".as_slice(), "prefix", 0),
+    ] {
+        for one_by_one in [false, true] {
+            let next = nth(rt.alloc(), bytes, one_by_one, 0)?;
+            assert_eq!(rt; value_of(&next), Some((value, cut)));
+        }
+    }
+    Ok(())
+}
+
+#[test]
+fn texts_are_refused_at_their_places(rt: HostRuntime) -> Result<(), Fail> {
+    for (bytes, code, at) in [
+        (b"\"\"\"a\"\"\"\"".as_slice(), Code::G1, 7),
+        (b"( \"\"\" \" )".as_slice(), Code::G1, 2),
+        (b"<a b>".as_slice(), Code::G1, 0),
+        (b"ex:a \xE2\x82".as_slice(), Code::U1, 5),
+    ] {
+        for one_by_one in [false, true] {
+            let next = nth(rt.alloc(), bytes, one_by_one, 9)?;
+            assert_eq!(rt; refusal_of(&next), Some(Refusal { code, at }));
+        }
+    }
+    Ok(())
+}
+
+#[test]
+fn little_is_kept(rt: HostRuntime) -> Result<(), Fail> {
+    let mut lexer = Lexer::new(rt.alloc())?;
+    lexer.feed(b"; # c\n ab\xC3\xA9\xE2\x82")?;
+    assert!(rt; matches!(lexer.next()?, Next::Token(_)));
+    assert!(rt; matches!(lexer.next()?, Next::More));
+    assert_eq!(rt; lexer.kept(), 6);
+    lexer.feed(b"\xFF")?;
+    assert_eq!(rt; lexer.bad_utf8(), Some(11));
+    assert!(rt; matches!(lexer.next()?, Next::Refused(_)));
+    assert_eq!(rt; lexer.kept(), 0);
     Ok(())
 }

@@ -5,3 +5,6 @@ pub mod Widths
 pub mod Leading
 pub mod Keeping
 pub mod Right
+pub mod Ruling
+pub mod Saying
+pub mod Once

@@ -47,7 +47,7 @@ goes row = (slice_index_or FINAL row false || nat_lt 0 (length (get_or ways_on r
 rows_go : all_below 133 goes ≡ true
 rows_go = refl
 
-kind_of : (k : TokenKind) → get_or kinds (index k) kind.Carets ≡ k
+pub kind_of : (k : TokenKind) → get_or kinds (index k) kind.Carets ≡ k
 kind_of kind.IriRef = refl
 kind_of kind.PnameNs = refl
 kind_of kind.PnameLn = refl

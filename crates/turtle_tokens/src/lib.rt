@@ -4,6 +4,7 @@
 mod cutter;
 mod front;
 mod kinds;
+pub mod laws;
 mod states;
 mod table;
 

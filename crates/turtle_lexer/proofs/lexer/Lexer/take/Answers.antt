@@ -1,10 +1,10 @@
-use Rattle.std.proofs.Common.{ap, sym, ◌∙◌, ◌∷◌, ◌+◌, ◌≡◌, ◌++◌, [], arith, subst}
+use Rattle.std.proofs.Common.{refl, ap, sym, ◌∙◌, ◌∷◌, ◌+◌, ◌≡◌, ◌++◌, [], arith, subst}
 use Rattle.std.specs.Prelude.{Some, None, Ok, ◌<◌, ◌^◌}
 use Rattle.turtle_lexer.specs.Lexing.{ahead, IsFed, HasRoom, stopped}
 use Rattle.turtle_tokens.specs.Items.{items_of}
 use Rattle.turtle_lexer.specs.Streams.{by_chars, stream}
 use Rattle.rdf_chars.specs.Decoding.{decoded}
-use Rattle.turtle_lexer.proofs.Feeding.{bad_ahead, fed_some, fed_none, knows_ok, knows_err, room_pushed, room_same, emptied_none, on_ok_by, on_err_by}
+use Rattle.turtle_lexer.proofs.Feeding.{bad_ahead, fed_some, fed_none, knows_ok, knows_err, room_pushed, room_same, emptied_none, on_ok_by, on_err_by, begun_whole, begun_inside}
 use Rattle.turtle_lexer.proofs.lexer.Lexer.take.Goals as goal
 
 pub returns-in-Err-clause-ahead : goal.returns-in-Err-clause-ahead
@@ -15,18 +15,27 @@ returns-in-Err-clause-ahead c = λ more.
 
 pub returns-then-is_some-clause-bytes : goal.returns-then-is_some-clause-bytes
 returns-then-is_some-clause-bytes c = λ bytes f.
-    let old = subst (λ l. IsFed l bytes) (sym c.self.view_is) f in
-    (c.push.ensures.stands bytes old.0, fed_some c.self.inside.finished bytes c.args.byte c.in-Ok-Some.c c.self.inside.bad c.push.result (ap (λ l. l.finished) c.self.view_is ∙ c.requires.before) (c.in-Ok-Some.is ∙ ap Ok c.in-Ok-Some.field-0-is) (c.push.ensures.says bytes old.0) old.1)
+    let old = subst (λ l. IsFed l bytes) (sym c.self.view_is) f in (
+      c.push.ensures.stands bytes old.0,
+      fed_some c.self.inside.finished bytes c.args.byte c.in-Ok-Some.c c.self.inside.bad c.push.result (ap (λ l. l.finished) c.self.view_is ∙ c.requires.before) (c.in-Ok-Some.is ∙ ap Ok c.in-Ok-Some.field-0-is) (c.push.ensures.says bytes old.0) old.1,
+      begun_whole c.self.inside.finished bytes c.args.byte c.in-Ok-Some.c 0 c.self.inside.bad c.push.result (ap (λ l. l.finished) c.self.view_is ∙ c.requires.before) (c.in-Ok-Some.is ∙ ap Ok c.in-Ok-Some.field-0-is) (c.push.ensures.says bytes old.0) old.1 refl,
+    )
 
 pub returns-else-is_err-clause-bytes : goal.returns-else-is_err-clause-bytes
 returns-else-is_err-clause-bytes c = λ bytes f.
-    let old = subst (λ l. IsFed l bytes) (sym c.self.view_is) f in
-    (c.push.ensures.stands bytes old.0, fed_some c.self.inside.finished bytes c.args.byte c.in-Ok-Some.c c.self.inside.bad c.push.result (ap (λ l. l.finished) c.self.view_is ∙ c.requires.before) (c.in-Ok-Some.is ∙ ap Ok c.in-Ok-Some.field-0-is) (c.push.ensures.says bytes old.0) old.1)
+    let old = subst (λ l. IsFed l bytes) (sym c.self.view_is) f in (
+      c.push.ensures.stands bytes old.0,
+      fed_some c.self.inside.finished bytes c.args.byte c.in-Ok-Some.c c.self.inside.bad c.push.result (ap (λ l. l.finished) c.self.view_is ∙ c.requires.before) (c.in-Ok-Some.is ∙ ap Ok c.in-Ok-Some.field-0-is) (c.push.ensures.says bytes old.0) old.1,
+      begun_whole c.self.inside.finished bytes c.args.byte c.in-Ok-Some.c 0 c.self.inside.bad c.push.result (ap (λ l. l.finished) c.self.view_is ∙ c.requires.before) (c.in-Ok-Some.is ∙ ap Ok c.in-Ok-Some.field-0-is) (c.push.ensures.says bytes old.0) old.1 refl,
+    )
 
 pub returns-in-Ok-None-clause-bytes : goal.returns-in-Ok-None-clause-bytes
 returns-in-Ok-None-clause-bytes c = λ bytes f.
-    let old = subst (λ l. IsFed l bytes) (sym c.self.view_is) f in
-    (c.push.ensures.stands bytes old.0, fed_none c.self.inside.finished bytes c.args.byte c.self.inside.bad c.push.result (ap (λ l. l.finished) c.self.view_is ∙ c.requires.before) (c.in-Ok-None.is ∙ ap Ok c.in-Ok-None.field-0-is) (c.push.ensures.says bytes old.0) old.1)
+    let old = subst (λ l. IsFed l bytes) (sym c.self.view_is) f in (
+      c.push.ensures.stands bytes old.0,
+      fed_none c.self.inside.finished bytes c.args.byte c.self.inside.bad c.push.result (ap (λ l. l.finished) c.self.view_is ∙ c.requires.before) (c.in-Ok-None.is ∙ ap Ok c.in-Ok-None.field-0-is) (c.push.ensures.says bytes old.0) old.1,
+      begun_inside bytes c.args.byte c.self.inside.begun c.min-self-inside.result c.self.inside.bad c.push.result (c.in-Ok-None.is ∙ ap Ok c.in-Ok-None.field-0-is) (c.push.ensures.says bytes old.0) old.2 c.min-self-inside.ensures,
+    )
 
 pub invariant_of-self-else-is_err : goal.invariant_of-self-else-is_err
 invariant_of-self-else-is_err c =

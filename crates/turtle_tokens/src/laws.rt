@@ -1,0 +1,22 @@
+// Laws over the definitions: each is the contract of a function with nothing to do.
+ghost use Rattle.std.specs.Prelude.{ℕ, List, ◌≡◌};
+ghost use Rattle.text_patterns.specs.Machines.{IsMachine};
+ghost use Rattle.turtle_tokens.specs.Machine.{turtle};
+ghost use Rattle.turtle_tokens.specs.Items.{Items, items};
+ghost use Rattle.turtle_tokens.specs.Texts.{AreItems, AreChars};
+ghost use Rattle.turtle_tokens.specs.declared.cutter.Place.{Place};
+
+/// The table's steps are those of the terminals' spellings.
+pub fn table_is_a_machine()
+    ensures { IsMachine turtle }
+{}
+
+/// The items of a text are its tokens, each the longest spelling behind a gap, and how the text stops.
+pub fn texts_have_items()
+    ensures { (p : Place) (text : List ℕ) (at : ℕ) → AreChars text → AreItems p text at (items p 0 text at) }
+{}
+
+/// A text has one list of items.
+pub fn items_are_unique()
+    ensures { (p : Place) (text : List ℕ) (at : ℕ) (i j : Items) → AreChars text → AreItems p text at i → AreItems p text at j → i ≡ j }
+{}
