@@ -1,14 +1,19 @@
 -- From the outcome of a part to that of the whole.
 use Rattle.std.proofs.Common.{◌≡◌, ℕ, ◌<◌, ◌≤◌, List, length, sym, subst, arith, Option, Some, None, is_some, true, inl, inr, true≢false, false, refl}
-use Rattle.std.specs.Prelude.{IfSome, ◌⊎◌}
+use Rattle.std.specs.Prelude.{IfSome, ◌⊎◌, Result, Ok, Err}
 use Rattle.crm_outside.specs.Causes.{Rose}
 use Rattle.crm_outside.specs.Shelves.{Files, held}
 use Rattle.crm_core.specs.declared.status.Status.{Status}
 use Rattle.crm_core.specs.declared.status.Status.TheVariants.{Done, Findings, Refused, Usage, ReadFault, WriteFault, Memory}
-use Rattle.crm_core.specs.Reports.{Report}
+use Rattle.crm_core.specs.declared.status.ReportFault.{ReportFault}
+use Rattle.crm_core.specs.declared.status.ReportFault.TheVariants as report
+use Rattle.crm_core.specs.Files.{Answers, AnswersBytes, IsTold, file_answer, is_ntriples}
+use Rattle.crm_core.specs.Reports.{Report, Writes}
+use Rattle.rdf_terms.specs.declared.triples.Records.{Records}
+use Rattle.ntriples_reader.specs.Answers.{Answer}
 use Rattle.crm_cli.specs.declared.words.Command.{Command}
-use Rattle.crm_cli.specs.Outcomes.{Outcome, Ends, IsComplete, Faulted}
-use Rattle.crm_cli.specs.Report.{read_fault_report, file_report, usage_report, command_report}
+use Rattle.crm_cli.specs.Outcomes.{Outcome, Ends, IsComplete, Faulted, ended}
+use Rattle.crm_cli.specs.Report.{read_fault_report, file_report, usage_report, command_report, records_report, answer_report, told_report}
 
 module _ {S : Type 0} (written : S → Option (List ℕ)) (faults sure : S → ℕ) (a b : S) where
   module _ (status : Status) where
@@ -30,6 +35,40 @@ module _ {S : Type 0} (written : S → Option (List ℕ)) (faults sure : S → �
         → IfSome o (λ files. Ends written faults sure a b (file_report command name (files name)) status ⊎ rose × Ending (read_fault_report name))
     faulted command name None rose r p = tt
     faulted command name (Some files) rose r p = inr (r, p)
+
+-- what was written of records is the end of their file's report
+module _ {S : Type 0} (written : S → Option (List ℕ)) (faults sure : S → ℕ) (a b : S) (command : Command) (name : List ℕ) (r : Records) where
+  written_ends : (p : Report) (w : Result Status ReportFault) → Writes written faults sure a b p w → Outcome written faults sure a b p (ended w)
+  written_ends p (Ok Done) h = (sym h.status.0, h.ok)
+  written_ends p (Ok Findings) h = (sym h.status.0, h.ok)
+  written_ends p (Ok Refused) h = (sym h.status.0, h.ok)
+  written_ends p (Ok Usage) h = (sym h.status.0, h.ok)
+  written_ends p (Ok ReadFault) h = absurd h.status.1
+  written_ends p (Ok WriteFault) h = absurd h.status.1
+  written_ends p (Ok Memory) h = absurd h.status.1
+  written_ends p (Err report.Failed) h = h.err
+  written_ends p (Err report.Memory) h = h.err
+
+  module _ (w : Result Status ReportFault) (h : Writes written faults sure a b (records_report command r) w) where
+    by_answer : (o : Option Answer) → IsTold (Ok r) o → Ends written faults sure a b (told_report command o) (ended w)
+    by_answer None told = tt
+    by_answer (Some x) told = subst (λ y. Outcome written faults sure a b (answer_report command y) (ended w)) (sym told) (written_ends (records_report command r) w h)
+
+    by_bytes : (o : Option (List ℕ)) → AnswersBytes (is_ntriples name) o (Ok r) → Ends written faults sure a b (file_report command name o) (ended w)
+    by_bytes None told = absurd told
+    by_bytes (Some bytes) told = by_answer (file_answer (is_ntriples name) bytes) told
+
+    module _ (s : Status) (is : s ≡ ended w) where
+      at_status : (o : Option (List ℕ)) → AnswersBytes (is_ntriples name) o (Ok r) → Ends written faults sure a b (file_report command name o) s
+      at_status o told = subst (λ x. Ends written faults sure a b (file_report command name o) x) (sym is) (by_bytes o told)
+
+      pub records_end : (o : Option Files) → Answers o name (Ok r) → IfSome o (λ files. Ends written faults sure a b (file_report command name (files name)) s)
+      records_end None told = tt
+      records_end (Some files) told = at_status (files name) told
+
+      pub records_end_or : (X : Type 0) (o : Option Files) → Answers o name (Ok r) → IfSome o (λ files. Ends written faults sure a b (file_report command name (files name)) s ⊎ X)
+      records_end_or X None told = tt
+      records_end_or X (Some files) told = inl (at_status (files name) told)
 
 module _ {S : Type 0} (written : S → Option (List ℕ)) (faults sure : S → ℕ) (a b : S) (status : Status) (rose : Type 0) where
   abbrev AtCommand : Option Files → Option Command → Type 0

@@ -1,2 +1,5 @@
 pub mod Endings
 pub mod Bases
+pub mod Truths
+pub mod Usages
+pub mod Headlines

@@ -1,4 +1,5 @@
 pub mod Exits
+pub mod Headline
 pub mod Outcomes
 pub mod Report
 pub mod Words

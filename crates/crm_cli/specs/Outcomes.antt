@@ -1,13 +1,19 @@
 -- What a run does to its sink, and how it ends.
-use Rattle.std.specs.Prelude.{◌≡◌, ◌⊎◌, ℕ, List, Option, Some, None, Result, Ok, Err, IfSome}
+use Rattle.std.specs.Prelude.{◌≡◌, ◌⊎◌, ℕ, List, Option, Some, None, Result, Ok, Err, IfSome, ⊤}
 use Rattle.crm_outside.specs.Printing.{Printed, Broken}
 use Rattle.crm_outside.specs.declared.printing.PrintFault.TheVariants.{Failed, Memory as NoMemory}
 use Rattle.crm_core.specs.declared.status.Status.{Status}
 use Rattle.crm_core.specs.declared.status.Status.TheVariants.{Done, Findings, Refused, Usage, ReadFault, WriteFault, Memory}
 use Rattle.crm_core.specs.declared.status.ReportFault.{ReportFault}
 use Rattle.crm_core.specs.declared.status.ReportFault.TheVariants as report
-use Rattle.crm_core.specs.Reports.{Report}
+use Rattle.rdf_terms.specs.declared.triples.Records.{Records}
+use Rattle.boundary_orders.specs.Dossiers.{AreFew}
+use Rattle.crm_outside.specs.Shelves.{Files}
+use Rattle.crm_core.specs.Explained.{period_named}
+use Rattle.crm_core.specs.Files.{Answers}
+use Rattle.crm_core.specs.Reports.{Report, findings_from}
 use Rattle.crm_cli.specs.declared.words.Command.{Command}
+use Rattle.crm_cli.specs.declared.words.Command.TheVariants.{Orders, Check, Reason, Explain, Convert}
 use Rattle.crm_cli.specs.Words.{file_of}
 use Rattle.crm_cli.specs.Report.{read_fault_report}
 
@@ -16,6 +22,27 @@ abbrev pub ended : Result Status ReportFault → Status
 ended (Ok status) = status
 ended (Err report.Failed) = WriteFault
 ended (Err report.Memory) = Memory
+
+-- in `explain`: over these records, which are within the limits, A or B names no period
+abbrev pub NamesNoPeriod : Command → Records → Type 0
+NamesNoPeriod (Orders base file) r = ⊥
+NamesNoPeriod (Check base file) r = ⊥
+NamesNoPeriod (Reason base file) r = ⊥
+NamesNoPeriod (Explain base file a code b) r =
+    AreFew (findings_from r)
+    × ((period_named r.names (findings_from r).extents a ≡ None) ⊎ (period_named r.names (findings_from r).extents b ≡ None))
+NamesNoPeriod (Convert base file) r = ⊥
+
+-- the file of a command is read to such records
+pub record AsksInVain (files : Option Files) (command : Command) : Type 0 where
+  pub records : Records
+  pub read : Answers files (file_of command) (Ok records)
+  pub unnamed : NamesNoPeriod command records
+
+-- the words have no form, or they ask in vain
+abbrev pub IsUsage : Option Files → Option Command → Type 0
+IsUsage files None = ⊤
+IsUsage files (Some command) = AsksInVain files command
 
 module _ {S : Type 0} (written : S → Option (List ℕ)) (faults sure : S → ℕ) (old new : S) where
   -- the whole text at its own status, and a front of it where the sink failed or memory was wanting

@@ -5,10 +5,11 @@ use Rattle.crm_outside.specs.Shelves.{Files}
 use Rattle.ntriples_reader.specs.Answers.{Answer}
 use Rattle.ntriples_reader.specs.Answers.Answer.{Refuse, Read}
 use Rattle.crm_core.specs.declared.status.Status.TheVariants.{Usage, ReadFault}
+use Rattle.crm_core.specs.Explained.{explain_report}
 use Rattle.crm_core.specs.Files.{file_answer, is_ntriples}
 use Rattle.crm_core.specs.Reports.{Report, orders_report, check_report, reason_report, convert_report, refusal_report}
 use Rattle.crm_cli.specs.declared.words.Command.{Command}
-use Rattle.crm_cli.specs.declared.words.Command.TheVariants.{Orders, Check, Reason, Convert}
+use Rattle.crm_cli.specs.declared.words.Command.TheVariants.{Orders, Check, Reason, Explain, Convert}
 use Rattle.crm_cli.specs.Words.{command_of, file_of}
 
 -- of the records of a file
@@ -16,6 +17,7 @@ abbrev pub records_report : Command → Records → Report
 records_report (Orders base file) r = orders_report r
 records_report (Check base file) r = check_report r
 records_report (Reason base file) r = reason_report r
+records_report (Explain base file a code b) r = explain_report r a code b
 records_report (Convert base file) r = convert_report r
 
 -- of the records of a file, or of its refusal

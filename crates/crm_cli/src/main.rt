@@ -2,6 +2,7 @@
 //! the starts and the ends of periods, and what follows from them.
 #![tactic(auto)]
 
+mod laws;
 mod run;
 #[cfg(test)]
 mod tests;

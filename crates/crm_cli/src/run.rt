@@ -3,14 +3,17 @@ ghost use Rattle.std.specs.Prelude.{◌≡◌, ◌⊎◌, ◌≤◌, length, IfS
 ghost use Rattle.crm_outside.specs.Causes.{Rose};
 ghost use Rattle.crm_core.specs.Reports.{Writes};
 ghost use Rattle.crm_cli.specs.Outcomes as spec;
-ghost use Rattle.crm_cli.specs.Outcomes.{Outcome, Ends, IsComplete, Faulted};
-ghost use Rattle.crm_cli.specs.Words.{command_of, IsSound};
+ghost use Rattle.crm_cli.specs.Outcomes.{Outcome, Ends, IsComplete, Faulted, AsksInVain, IsUsage};
+ghost use Rattle.crm_cli.specs.Headline.{SaysTruly};
+ghost use Rattle.crm_cli.specs.Words.{command_of, AreApart, IsSound};
 ghost use Rattle.crm_cli.specs.Report.{records_report, read_fault_report, read_fault_text, usage_report, report, command_report};
 
+use crate::laws::{answers_are_true, reports_are_true};
 use crate::words::{Command, base_of, file_of, read_words};
+use crm_core::laws::orders_of_records_are_a_set;
 use crm_core::{
-    Archive, ArchiveFault, ReportFault, Status, write_check, write_convert, write_orders,
-    write_reason, write_refusal,
+    Archive, ArchiveFault, ReportFault, Status, write_check, write_convert, write_explain,
+    write_orders, write_reason, write_refusal,
 };
 use crm_outside::{Shelf, Sink, write_all};
 use std::alloc::{AllocError, Global};
@@ -63,12 +66,20 @@ fn write_report<W: Sink>(
     archive: &Archive,
     out: &mut W,
 ) -> Result<Status, ReportFault>
+    requires { AreApart command.now }
     ensures { Writes W.written W.faults W.sure out.old out.new (records_report command.now archive.now) result }
 {
     match command {
         Command::Orders { base: _, file: _ } => write_orders(alloc, archive, out),
         Command::Check { base: _, file: _ } => write_check(alloc, archive, out),
         Command::Reason { base: _, file: _ } => write_reason(alloc, archive, out),
+        Command::Explain {
+            base: _,
+            file: _,
+            a,
+            code,
+            b,
+        } => write_explain(alloc, archive, a.as_str(), *code, b.as_str(), out),
         Command::Convert { base: _, file: _ } => write_convert(alloc, archive, out),
     }
 }
@@ -86,7 +97,7 @@ fn run_command<S: Shelf, W: Sink>(
         ⊎ Faulted W.written W.faults W.sure out.old out.new (Rose (S.faults shelf.old) (S.faults shelf.new)) (Some command.now) result) }
     ensures honest { S.honest shelf.old ≡ true → IfSome (S.files shelf.old) (λ files.
         Ends W.written W.faults W.sure out.old out.new (command_report (Some command.now) files) result) }
-    ensures usage { result ≡ Status.Usage → ⊥ }
+    ensures usage { result ≡ Status.Usage → AsksInVain (S.files shelf.old) command.now }
     ensures read { result ≡ Status.ReadFault → Rose (S.faults shelf.old) (S.faults shelf.new) }
     ensures write { result ≡ Status.WriteFault → Rose (W.faults out.old) (W.faults out.new) }
 {
@@ -112,7 +123,7 @@ fn run_words<S: Shelf, W: Sink>(
     ensures honest { S.honest shelf.old ≡ true → IfSome (S.files shelf.old) (λ files.
         Ends W.written W.faults W.sure out.old out.new (report (map string_bytes words.now) files) result) }
     ensures no_form { command_of (map string_bytes words.now) ≡ None → Outcome W.written W.faults W.sure out.old out.new usage_report result }
-    ensures usage { result ≡ Status.Usage → command_of (map string_bytes words.now) ≡ None }
+    ensures usage { result ≡ Status.Usage → IsUsage (S.files shelf.old) (command_of (map string_bytes words.now)) }
     ensures read { result ≡ Status.ReadFault → Rose (S.faults shelf.old) (S.faults shelf.new) }
     ensures write { result ≡ Status.WriteFault → Rose (W.faults out.old) (W.faults out.new) }
 {
@@ -137,8 +148,11 @@ pub fn run<S: Shelf, W: Sink>(alloc: Global, words: &[String], shelf: &mut S, ou
         ⊎ Faulted W.written W.faults W.sure out.old out.new (Rose (S.faults shelf.old) (S.faults shelf.new)) (command_of (map string_bytes words.now)) result) }
     ensures honest { S.honest shelf.old ≡ true → IfSome (S.files shelf.old) (λ files.
         Ends W.written W.faults W.sure out.old out.new (report (map string_bytes words.now) files) result) }
+    // of a file that is told the report says what is true of every placing of its starts and ends
+    ensures headline { IfSome (S.files shelf.old) (λ files. SaysTruly W.written out.old out.new files (command_of (map string_bytes words.now)) result) }
     ensures no_form { command_of (map string_bytes words.now) ≡ None → Outcome W.written W.faults W.sure out.old out.new usage_report result }
-    ensures usage { result ≡ Status.Usage → command_of (map string_bytes words.now) ≡ None }
+    // the words have no form, or in `explain` over a file that is read within the limits A or B names no period
+    ensures usage { result ≡ Status.Usage → IsUsage (S.files shelf.old) (command_of (map string_bytes words.now)) }
     ensures read { result ≡ Status.ReadFault → Rose (S.faults shelf.old) (S.faults shelf.new) }
     ensures write { result ≡ Status.WriteFault → Rose (W.faults out.old) (W.faults out.new) }
     // where neither count rose, the report is whole, or memory was wanting
@@ -149,5 +163,8 @@ pub fn run<S: Shelf, W: Sink>(alloc: Global, words: &[String], shelf: &mut S, ou
         IfSome (report (map string_bytes words.now) files) (λ r. length r.text ≤ W.sure out.old →
         IsComplete W.written W.faults W.sure out.old out.new r result)) }
 {
+    reports_are_true();
+    answers_are_true();
+    orders_of_records_are_a_set();
     run_words(alloc, words, shelf, out)
 }

@@ -1,3 +1,4 @@
+pub mod Explained
 pub mod Files
 pub mod Names
 pub mod Reports

@@ -87,12 +87,12 @@ abbrev pub told : Result Status PrintFault → Result Status ReportFault
 told (Ok s) = Ok s
 told (Err f) = Err (report_fault f)
 
--- A report that is written whole ends so.
+-- A report that is written whole ends so; `Usage` ends those whose own status it is.
 abbrev pub IsEnding : Status → Type 0
 IsEnding Done = ⊤
 IsEnding HasFindings = ⊤
 IsEnding Refused = ⊤
-IsEnding Usage = ⊥
+IsEnding Usage = ⊤
 IsEnding ReadFault = ⊥
 IsEnding WriteFault = ⊥
 IsEnding Memory = ⊥

@@ -2,7 +2,9 @@
 #![tactic(auto)]
 
 mod archive;
+mod explaining;
 mod feeding;
+pub mod laws;
 mod lines;
 mod names;
 mod printing;
@@ -14,7 +16,12 @@ mod tests;
 mod writing;
 
 pub use archive::Archive;
+pub use explaining::{is_blank_name, write_explain};
+pub use order_core::Primitive;
 pub use reasoning::write_reason;
 pub use status::{ArchiveFault, ReportFault, Status};
 pub use survey::{Survey, take_survey};
-pub use writing::{build_dossier, status_of, tell_passed, told, write_check, write_convert, write_orders, write_refusal};
+pub use writing::{
+    build_dossier, status_of, tell_passed, told, write_check, write_convert, write_orders,
+    write_refusal,
+};
