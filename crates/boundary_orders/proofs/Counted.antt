@@ -6,7 +6,7 @@ use Rattle.std.specs.List.Sorted.{IsStrictlyIncreasing}
 use Rattle.std.proofs.lemmas.List.Elements.{All-nil, All-cons, All-weaker}
 use Rattle.rdf_terms.specs.declared.terms.Term.{Term}
 use Rattle.order_core.specs.Sets.{Orders}
-use Rattle.boundary_orders.specs.Dossiers.{Findings, periods_from, IsKept, IsWhole}
+use Rattle.boundary_orders.specs.Dossiers.{periods_from, IsKept, IsWhole}
 
 pub record IsBetween (low high k : ℕ) : Type 0 where
   pub from : low ≤ k

@@ -1,5 +1,5 @@
 -- How many extents, dates and orders there can be, by the count of triples.
-use Rattle.std.proofs.Common.{ℕ, zero, suc, ℤ, ◌≡◌, ◌<◌, ◌≤◌, ◌+◌, ◌*◌, ◌&&◌, ◌++◌, Bool, true, false, cond, not, Option, Some, None, List, [], ◌∷◌, get_or, length, filter, map, refl, ap, arith}
+use Rattle.std.proofs.Common.{ℕ, suc, ℤ, ◌≡◌, ◌≤◌, ◌+◌, ◌*◌, Bool, true, false, cond, not, Option, Some, None, List, [], ◌∷◌, length, filter, refl, arith}
 use Rattle.std.specs.List.{filter_map, flat_map, fold, cons_option}
 use Rattle.std.specs.Ordering.{int_cmp, match_ordering}
 use Rattle.std.specs.BTreeSet.{insert_key}
@@ -11,7 +11,6 @@ use Rattle.rdf_terms.specs.declared.terms.Triple.{Triple}
 use Rattle.rdf_terms.specs.Terms.{same_term}
 use Rattle.rdf_terms.specs.Naming.{NameLists}
 use Rattle.crm_type_check.specs.declared.Fault.{Fault}
-use Rattle.order_laws.specs.declared.Order.{Order}
 use Rattle.boundary_orders.specs.declared.statements.Statement.{Statement}
 use Rattle.boundary_orders.specs.Statements.{statement_of, statements_of}
 use Rattle.boundary_orders.specs.Extents.{distinct, ends_in, rows_by, kind_of, standings_of, extents_of}

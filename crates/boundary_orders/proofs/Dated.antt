@@ -1,10 +1,10 @@
 -- Each dated statement has its date, where the triples fit the names and these are their faults.
-use Rattle.std.proofs.Common.{ℕ, zero, suc, ℤ, ◌≡◌, ◌<◌, ◌+◌, ◌&&◌, ◌||◌, ◌++◌, Bool, true, false, cond, not, Option, Some, None, Result, Ok, Err, List, [], ◌∷◌, get_or, length, map, nat_eq, position, slice_get, refl, sym, ap, subst, ◌∙◌, arith, inl, inr}
-use Rattle.std.specs.Prelude.{is_some, option_and_then, slice_index_or}
+use Rattle.std.proofs.Common.{ℕ, zero, suc, ℤ, ◌≡◌, ◌<◌, ◌+◌, ◌&&◌, ◌||◌, ◌++◌, Bool, true, false, cond, not, Option, Some, None, Result, Ok, Err, List, [], ◌∷◌, get_or, length, map, nat_eq, position, refl, sym, ap, subst, ◌∙◌, arith}
+use Rattle.std.specs.Prelude.{is_some, option_and_then}
 use Rattle.std.specs.List.{All, list_any}
 use Rattle.std.specs.Option.{option_map}
 use Rattle.std.proofs.lemmas.Bool.Decides.{nat_tests}
-use Rattle.std.proofs.lemmas.Bool.{false≢true, cases_Bool, or_cases, and_parts, both_ways, eqb-true, eq-eqb, ltb-true, not-true, not-false}
+use Rattle.std.proofs.lemmas.Bool.{false≢true, and_parts, both_ways, eq-eqb, ltb-true, not-true}
 use Rattle.std.proofs.lemmas.List.Elements.{All-from_recursion}
 use Rattle.std.proofs.lemmas.List.Quantifiers.{position-Some}
 use Rattle.std.proofs.lemmas.Option.{slice_get-get_or}
@@ -24,7 +24,7 @@ use Rattle.time_primitive.specs.declared.DateFault.{DateFault}
 use Rattle.time_primitive.specs.Dates.{date_of}
 use Rattle.crm_type_check.specs.declared.Fault.{Fault}
 use Rattle.crm_type_check.specs.declared.FaultKind.{FaultKind}
-use Rattle.crm_type_check.specs.declared.FaultKind.TheVariants.{C1, C2, C3, D1, R1, R2, R3, R4, A1}
+use Rattle.crm_type_check.specs.declared.FaultKind.TheVariants.{C1, C2, C3, D1, R1, R2, R3, A1}
 use Rattle.crm_type_check.specs.declared.own.OwnFaults.{OwnFaults}
 use Rattle.crm_type_check.specs.declared.relation.Occurrence.{Occurrence}
 use Rattle.crm_type_check.specs.declared.relation.Occurrence.TheVariants.{Absent, Once, Repeated}

@@ -1,6 +1,6 @@
 -- The nodes of extents are among the names where the triples fit them.
-use Rattle.std.proofs.Common.{ℕ, suc, ◌≡◌, ◌<◌, ◌&&◌, Bool, true, false, not, Option, Some, None, List, [], ◌∷◌, get_or, length, map, filter, refl, sym, ap, subst, ◌∙◌, arith}
-use Rattle.std.specs.List.{All, filter_map}
+use Rattle.std.proofs.Common.{ℕ, suc, ◌≡◌, ◌&&◌, Bool, true, false, not, Option, Some, None, List, [], ◌∷◌, get_or, map, filter, refl, ap, subst, arith}
+use Rattle.std.specs.List.{All}
 use Rattle.std.specs.Option.{option_map}
 use Rattle.std.proofs.lemmas.Bool.{false≢true}
 use Rattle.std.proofs.lemmas.List.Elements.{All-from_recursion, All-nil, All-cons, All-filter}
@@ -8,9 +8,9 @@ use Rattle.rdf_terms.specs.declared.terms.Term.{Term}
 use Rattle.rdf_terms.specs.declared.terms.Triple.{Triple}
 use Rattle.rdf_terms.specs.Terms.{same_term}
 use Rattle.rdf_terms.specs.Naming.{NameLists}
-use Rattle.rdf_terms.specs.Fitting.{is_literal, is_iri, is_among, fits, AllFit}
+use Rattle.rdf_terms.specs.Fitting.{is_literal, is_iri, is_among, AllFit}
 use Rattle.crm_type_check.specs.declared.Fault.{Fault}
-use Rattle.boundary_orders.specs.Extents.{distinct, ends_in, rows_by, kind_of, standings_of, extents_of}
+use Rattle.boundary_orders.specs.Extents.{distinct, ends_in, kind_of, standings_of, extents_of}
 use Rattle.boundary_orders.proofs.Covering.{all_given}
 
 pub ends_of_five : (a b c d e : Bool) → (a && b && c && d && e) ≡ true → (c ≡ true) × (e ≡ true)

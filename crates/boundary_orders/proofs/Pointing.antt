@@ -1,9 +1,9 @@
 -- The points of all orders are in range, and each order of a statement has the number of a triple.
-use Rattle.std.proofs.Common.{ℕ, zero, suc, ℤ, ◌≡◌, ◌<◌, ◌+◌, ◌-◌, ◌&&◌, ◌++◌, Bool, true, false, cond, Option, Some, None, List, [], ◌∷◌, get_or, length, map, nat_eq, refl, sym, ap, subst, ◌∙◌, arith, inl, inr}
+use Rattle.std.proofs.Common.{ℕ, zero, suc, ℤ, ◌≡◌, ◌<◌, ◌+◌, ◌-◌, ◌++◌, Bool, true, false, cond, Option, Some, None, List, [], ◌∷◌, get_or, length, map, nat_eq, refl, sym, ap, subst, arith}
 use Rattle.std.specs.Prelude.{is_some}
-use Rattle.std.specs.List.{All, AllByRecursion, list_any, list_all, flat_map, position_or_len}
+use Rattle.std.specs.List.{All, AllByRecursion, list_any, list_all, flat_map}
 use Rattle.std.specs.Option.{option_map}
-use Rattle.std.proofs.lemmas.Bool.{false≢true, cases_Bool, and_parts, eq-eqb, cond-true, cond-false}
+use Rattle.std.proofs.lemmas.Bool.{false≢true, and_parts, eq-eqb, cond-true}
 use Rattle.std.proofs.lemmas.List.Elements.{All-from_recursion, All-nil, All-cons, All-append, All-map}
 use Rattle.rdf_terms.specs.declared.terms.Term.{Term}
 use Rattle.rdf_terms.specs.declared.terms.Triple.{Triple}
@@ -11,21 +11,20 @@ use Rattle.rdf_terms.specs.Terms.{same_term}
 use Rattle.rdf_terms.specs.Naming.{NameLists}
 use Rattle.triple_pool.specs.Pool.{triple_of}
 use Rattle.crm_type_check.specs.declared.Fault.{Fault}
-use Rattle.order_laws.specs.declared.By.{By}
 use Rattle.order_laws.specs.declared.Point.TheVariants.{Start, End, Date}
-use Rattle.order_laws.specs.declared.By.TheVariants.{Triple as FromTriple, Extent, Dates}
+use Rattle.order_laws.specs.declared.By.TheVariants.{Extent, Dates}
 use Rattle.order_laws.specs.declared.Order.{Order}
 use Rattle.order_laws.specs.Chains.{no_order}
 use Rattle.order_laws.specs.Tables.{IsPoint}
 use Rattle.order_core.specs.Sets.{AreInRange, completed, extent_orders, date_orders}
 use Rattle.boundary_orders.specs.declared.statements.Statement.{Statement}
-use Rattle.boundary_orders.specs.Statements.{is_dated, meaning_of, statement_of, statements_of}
-use Rattle.boundary_orders.specs.Orders.{Spot, DomainStart, DomainEnd, RangeStart, RangeEnd, TheDate, Rule, rules_of, point_at, order_by, is_numbered, AreNumbered, same_instant, is_held, instant_of, dates_of, date_number, extent_number, range_number, orders_with, orders_by, statement_orders}
+use Rattle.boundary_orders.specs.Statements.{is_dated, statement_of, statements_of}
+use Rattle.boundary_orders.specs.Orders.{Spot, DomainStart, DomainEnd, RangeStart, RangeEnd, TheDate, Rule, rules_of, point_at, order_by, AreNumbered, same_instant, is_held, instant_of, dates_of, date_number, extent_number, range_number, orders_with, orders_by, statement_orders}
 use Rattle.boundary_orders.specs.Dossiers.{IsSourced}
 use Rattle.boundary_orders.proofs.Ruling.{spot_fits, rule_fits, rules_fit}
 use Rattle.boundary_orders.proofs.Within.{place_within}
 use Rattle.boundary_orders.proofs.Holding.{dates_hold}
-use Rattle.boundary_orders.proofs.Covering.{Comes, statement_comes, all_given}
+use Rattle.boundary_orders.proofs.Covering.{statement_comes, all_given}
 
 -- a number stands for the date where the property is dated, and else for an extent
 pub record IsRange (extents dates : ℕ) (dated : Bool) (k : ℕ) : Type 0 where

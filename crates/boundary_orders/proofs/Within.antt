@@ -1,5 +1,5 @@
 -- The ends of statements are among the extents.
-use Rattle.std.proofs.Common.{ℕ, zero, suc, ◌≡◌, ◌<◌, ◌+◌, ◌||◌, ◌++◌, Bool, true, false, cond, not, Option, Some, None, List, [], ◌∷◌, get_or, length, refl, ap, ◌∙◌, arith}
+use Rattle.std.proofs.Common.{ℕ, zero, suc, ◌≡◌, ◌<◌, ◌+◌, ◌||◌, Bool, true, false, cond, not, Some, None, List, [], ◌∷◌, get_or, length, ◌∙◌, arith}
 use Rattle.std.specs.List.{All, list_any, flat_map, position_or_len}
 use Rattle.std.proofs.lemmas.Bool.{false≢true, cond-true}
 use Rattle.std.proofs.lemmas.List.Folds.{list_any-append}

@@ -67,6 +67,7 @@ impl Dossier {
         ensures fits { AllFit names.now (map (λ p. p.1) pool.now.pairs) → IfOk result (λ d. All (λ e. is_among names.now e.0 ≡ true) d.extents) }
         ensures sources { IfOk result (λ d. All (λ o. IsSourced pool.now.pairs o.by) d.orders.list) }
     {
+        // its contract bounds the counts of extents, dates and orders
         let _count = pool.len();
         let index = index_of(alloc, names, pool)?;
         let faulty = faulty_numbers(alloc, faults)?;

@@ -1,5 +1,5 @@
 -- From the outcome of a part to that of the whole.
-use Rattle.std.proofs.Common.{◌≡◌, ℕ, ◌<◌, ◌≤◌, List, length, sym, subst, arith, Option, Some, None, is_some, true, inl, inr, true≢false, false, refl}
+use Rattle.std.proofs.Common.{◌≡◌, ℕ, ◌≤◌, List, length, sym, subst, arith, Option, Some, None, is_some, inl, inr, true≢false, false, refl}
 use Rattle.std.specs.Prelude.{IfSome, ◌⊎◌, Result, Ok, Err}
 use Rattle.crm_outside.specs.Causes.{Rose}
 use Rattle.crm_outside.specs.Shelves.{Files, held}

@@ -1,5 +1,5 @@
 -- What a run says is true of every placing.
-use Rattle.std.proofs.Common.{◌≡◌, ℕ, ◌<◌, List, ◌++◌, Option, Some, None, IfSome, length, refl, sym, ap, subst, ◌∙◌, inl, inr}
+use Rattle.std.proofs.Common.{◌≡◌, ℕ, ◌<◌, List, ◌++◌, Option, Some, None, IfSome, length, refl, sym, subst, ◌∙◌, inl, inr}
 use Rattle.std.specs.Prelude.{◌⊎◌}
 use Rattle.std.proofs.lemmas.List.{append_assoc}
 use Rattle.rdf_terms.specs.declared.triples.Records.{Records}
@@ -17,7 +17,6 @@ use Rattle.crm_core.specs.declared.explaining.Period.{Period}
 use Rattle.crm_core.specs.declared.status.Status.{Status}
 use Rattle.crm_core.specs.declared.status.Status.TheVariants.{Done, Findings, Refused, Usage, ReadFault}
 use Rattle.crm_core.specs.Explained.{explained_text, named_report, period_lines, period_named, periods_report}
-use Rattle.crm_core.specs.Files.{file_answer, is_ntriples}
 use Rattle.crm_core.specs.Reports.{Report, faults_in, findings_from, reason_text, reasons_report, within_limits}
 use Rattle.crm_core.specs.Texts.{check_text, orders_text}
 use Rattle.crm_core.proofs.Limits.{within}
@@ -26,7 +25,7 @@ use Rattle.crm_cli.specs.declared.words.Command.{Command}
 use Rattle.crm_cli.specs.declared.words.Command.TheVariants.{Orders as OrdersCommand, Check, Reason, Explain, Convert}
 use Rattle.crm_cli.specs.Headline.{IsTrueReason, IsTrueAnswer, IsReasoned, IsExplained, IsReport, IsSaid, Says, SaysTruly, answer_at, front_of}
 use Rattle.crm_cli.specs.Outcomes.{Outcome, Ends, Faulted}
-use Rattle.crm_cli.specs.Report.{answer_report, command_report, file_report, read_fault_report, records_report, told_report}
+use Rattle.crm_cli.specs.Report.{command_report, file_report, read_fault_report, records_report, told_report}
 use Rattle.crm_cli.specs.Words.{file_of}
 
 module _

@@ -4,7 +4,7 @@ use Rattle.crm_type_check.specs.declared.Fault.{Fault}
 use Rattle.crm_core.specs.declared.status.ReportFault.{ReportFault}
 use Rattle.crm_core.specs.declared.status.ReportFault.TheVariants as report
 use Rattle.crm_core.specs.declared.status.Status.{Status}
-use Rattle.crm_core.specs.declared.status.Status.TheVariants.{Done, Findings, Refused, Usage, WriteFault, Memory}
+use Rattle.crm_core.specs.declared.status.Status.TheVariants.{Done, Findings, Refused, Usage}
 use Rattle.rdf_terms.specs.declared.triples.Records.{Records}
 use Rattle.reason_report.specs.Reason.{cycle_of}
 use Rattle.std.specs.Prelude.{is_none}

@@ -1,5 +1,5 @@
 -- The limits of a dossier, and what is told of them.
-use Rattle.std.proofs.Common.{◌≡◌, ℕ, ◌≤◌, ◌<◌, List, length, refl, sym, subst, ap, ◌∙◌, arith, true, false, Option, Result, Ok, Err}
+use Rattle.std.proofs.Common.{◌≡◌, ℕ, ◌≤◌, ◌<◌, List, refl, subst, arith, true, false, Option, Result, Ok, Err}
 use Rattle.std.specs.Prelude.{nat_lt}
 use Rattle.std.proofs.lemmas.Bool.Decides.{nat_tests}
 use Rattle.crm_outside.specs.declared.printing.PrintFault.{PrintFault}

@@ -1,5 +1,5 @@
 -- The periods that words name, and the status of what is said of them.
-use Rattle.std.proofs.Common.{◌≡◌, ℕ, ◌<◌, ◌≤◌, Bool, true, false, cond, List, length, Option, Some, None, IfSome, refl, sym, ap, subst, ◌∙◌, arith, inl, inr}
+use Rattle.std.proofs.Common.{◌≡◌, ℕ, ◌<◌, ◌≤◌, Bool, true, false, cond, List, length, Option, Some, None, IfSome, refl, ap, ◌∙◌, arith, inl, inr}
 use Rattle.std.specs.Prelude.{◌⊎◌, nat_lt, if◌then◌else◌, slice_get, position, codes}
 use Rattle.std.proofs.lemmas.Bool.Decides.{nat_tests}
 use Rattle.std.proofs.lemmas.Option.{slice_get_within}
@@ -14,7 +14,7 @@ use Rattle.reason_report.specs.declared.answers.Answer.TheVariants.{Holds, Fails
 use Rattle.reason_report.specs.Answers.{answer_of}
 use Rattle.crm_core.specs.declared.explaining.Period.{Period}
 use Rattle.crm_core.specs.declared.status.Status.{Status}
-use Rattle.crm_core.specs.declared.status.Status.TheVariants.{Done, Findings as HasFindings, Refused, Usage}
+use Rattle.crm_core.specs.declared.status.Status.TheVariants.{Refused, Usage}
 use Rattle.crm_core.specs.Reports.{Report, passed, within_limits, findings_from}
 use Rattle.crm_core.specs.Explained.{node_named, period_where, period_at, period_of, period_named, answer_status, named_report, periods_report, explain_report}
 use Rattle.crm_core.proofs.Limits.{within}

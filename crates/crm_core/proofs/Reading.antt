@@ -1,11 +1,12 @@
 -- A file that is fed to a reader, and what is answered of it.
-use Rattle.std.proofs.Common.{◌≡◌, ℕ, ◌+◌, ◌≤◌, ◌<◌, List, [], ◌++◌, length, refl, sym, ap, subst, ◌∙◌, arith, append_assoc, append-nil, length-append, length-take, take, Option, Some, None, is_some, true, false, true≢false, Result, Ok, Err}
+use Rattle.std.proofs.Common.{◌≡◌, ℕ, ◌+◌, ◌≤◌, ◌<◌, List, [], ◌++◌, length, refl, sym, ap, subst, ◌∙◌, arith, append_assoc, append-nil, length-append, length-take, take, Option, Some, None, is_some, true, false, true≢false, Result, Ok, Err, inl, inr}
 use Rattle.std.specs.Prelude.{Bool, IfSome, IfOk, IfErr, nat_lt}
 use Rattle.std.proofs.lemmas.Bool.Decides.{nat_tests}
 use Rattle.std.proofs.lemmas.List.{take-append-le}
-use Rattle.std.specs.Io.KnownBytes.{Consumes}
+use Rattle.std.specs.Io.KnownBytes.{Consumes, IsAtEnd}
 use Rattle.std.proofs.KnownBytes.{Consumes-nil, Consumes-trans}
 use Rattle.crm_outside.specs.Shelves.{Files, IsOpened}
+use Rattle.crm_outside.proofs.Pieces.{taken_to}
 use Rattle.rdf_terms.specs.declared.terms.Code.{Code}
 use Rattle.rdf_terms.specs.declared.terms.Code.TheVariants.{L1}
 use Rattle.rdf_terms.specs.declared.terms.Refusal.{Refusal}
@@ -17,7 +18,7 @@ use Rattle.ntriples_reader.specs.declared.lines.ReadRefusal.{ReadRefusal}
 use Rattle.ntriples_reader.specs.declared.lines.ReadRefusal.TheVariants as reading
 use Rattle.crm_core.specs.declared.status.ArchiveFault.{ArchiveFault}
 use Rattle.crm_core.specs.declared.status.ArchiveFault.TheVariants.{Failed, Refused, Memory}
-use Rattle.crm_core.specs.Files.{file_answer, text_answer, archived, is_ntriples, IsAnswer, IsTold, AnswersBytes, Answers, IsFed, IsFedWhole, IsLong, IsTakenLong}
+use Rattle.crm_core.specs.Files.{file_answer, text_answer, archived, is_ntriples, IsTold, AnswersBytes, Answers, IsFed, IsFedWhole, IsLong, IsTakenLong, IsOut, IsReadOut}
 
 -- nothing was fed
 pub fed_nothing : (a : Option (List ℕ)) (p : List ℕ → Option Answer) → IsFed a a p p 0
@@ -138,3 +139,24 @@ not_held b (Some xs) = failed (file_answer b xs)
 pub not_opened : (o : Option Files) (name : List ℕ) → Answers o name (Err Failed)
 not_opened None name = tt
 not_opened (Some files) name = not_held (is_ntriples name) (files name)
+
+-- where feeding broke off
+pub long_out : (start left : Option (List ℕ)) (e : ArchiveFault) → IsTakenLong start left e → IsOut start left (Err e)
+long_out start left Failed t = tt
+long_out start left Memory t = tt
+long_out start left (Refused f) t = inr (record { bytes = t.bytes; count = t.count; taken = t.taken })
+
+-- where all was fed
+pub whole_out : (start left : Option (List ℕ)) (x : Result Records ReadRefusal) → IsAtEnd left → IsOut start left (archived x)
+whole_out start left (Ok r) end = end
+whole_out start left (Err (reading.Refused f)) end = inl end
+whole_out start left (Err reading.Memory) end = tt
+
+pub out_of_opened : (o : Option Files) (name : List ℕ) (start left : Option (List ℕ)) (r : Result Records ArchiveFault) → IsOpened o name start → IsOut start left r → IsReadOut o name left r
+out_of_opened o name start left (Ok r) opened p = p
+out_of_opened o name start left (Err Failed) opened p = tt
+out_of_opened o name start left (Err Memory) opened p = tt
+out_of_opened o name start left (Err (Refused f)) opened p = elim p [
+  | inl end ↦ inl end
+  | inr past ↦ inr (taken_to o name start left past.bytes 67108865 opened past.taken past.count)
+]

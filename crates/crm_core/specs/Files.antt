@@ -1,8 +1,8 @@
 -- What a file says, and how it is taken from a shelf.
-use Rattle.std.specs.Prelude.{◌≡◌, ◌≤◌, ℕ, Bool, true, false, List, ◌++◌, length, codes, nat_lt, nat_eq, if◌then◌else◌, Option, Some, None, Result, Ok, Err, ⊤}
+use Rattle.std.specs.Prelude.{◌≡◌, ◌≤◌, ℕ, Bool, true, false, List, ◌++◌, length, codes, nat_lt, nat_eq, if◌then◌else◌, Option, Some, None, Result, Ok, Err, ⊤, ◌⊎◌}
 use Rattle.std.specs.List.{ends_with}
 use Rattle.std.specs.Io.KnownBytes.{Consumes, IsAtEnd}
-use Rattle.crm_outside.specs.Shelves.{Files}
+use Rattle.crm_outside.specs.Shelves.{Files, IsTakenTo}
 use Rattle.rdf_terms.specs.declared.terms.Code.TheVariants.{L1}
 use Rattle.rdf_terms.specs.declared.terms.Refusal.{Refusal}
 use Rattle.rdf_terms.specs.declared.triples.Records.{Records}
@@ -83,3 +83,23 @@ abbrev pub IsTakenLong : Option (List ℕ) → Option (List ℕ) → ArchiveFaul
 IsTakenLong start left (Refused f) = IsLong start left f
 IsTakenLong start left Failed = ⊤
 IsTakenLong start left Memory = ⊤
+
+-- one byte past the limit was taken of what was left
+pub record IsPast (start left : Option (List ℕ)) : Type 0 where
+  pub bytes : List ℕ
+  pub count : length bytes ≡ 67108865
+  pub taken : Consumes start left bytes
+
+-- The open file was read to its end, or one byte past the limit of length; nothing is told where a call failed or memory was wanting.
+abbrev pub IsOut : Option (List ℕ) → Option (List ℕ) → Result Records ArchiveFault → Type 0
+IsOut start left (Ok r) = IsAtEnd left
+IsOut start left (Err (Refused f)) = IsAtEnd left ⊎ IsPast start left
+IsOut start left (Err Failed) = ⊤
+IsOut start left (Err Memory) = ⊤
+
+-- so it is with the file of a name
+abbrev pub IsReadOut : Option Files → List ℕ → Option (List ℕ) → Result Records ArchiveFault → Type 0
+IsReadOut files name left (Ok r) = IsAtEnd left
+IsReadOut files name left (Err (Refused f)) = IsAtEnd left ⊎ IsTakenTo files name 67108865 left
+IsReadOut files name left (Err Failed) = ⊤
+IsReadOut files name left (Err Memory) = ⊤

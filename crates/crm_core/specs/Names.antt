@@ -1,5 +1,5 @@
 -- Codes and kinds as they are printed.
-use Rattle.std.specs.Prelude.{ℕ, List, codes, Bool, true, false}
+use Rattle.std.specs.Prelude.{ℕ, List, codes}
 use Rattle.rdf_terms.specs.declared.terms.Code.{Code}
 use Rattle.rdf_terms.specs.declared.terms.Code.TheVariants as code
 use Rattle.time_primitive.specs.declared.DateKind.{DateKind}

@@ -1,12 +1,11 @@
 -- The texts of reports.
-use Rattle.std.specs.Prelude.{ℕ, List, [], ◌∷◌, ◌++◌, length, codes, cond, Bool}
+use Rattle.std.specs.Prelude.{ℕ, List, ◌++◌, length, codes, cond, Bool}
 use Rattle.std.specs.Fmt.{decimal}
 use Rattle.rdf_terms.specs.declared.terms.Term.{Term}
 use Rattle.rdf_terms.specs.declared.terms.Triple.{Triple}
 use Rattle.rdf_terms.specs.Naming.{NameLists}
 use Rattle.crm_outside.specs.Printing.{lines_from}
 use Rattle.ntriples_writer.specs.Lines.{term_text, canonical_line}
-use Rattle.time_primitive.specs.declared.DateFault.{DateFault}
 use Rattle.crm_type_check.specs.declared.Fault.{Fault}
 use Rattle.crm_type_check.specs.declared.FaultKind.{FaultKind}
 use Rattle.crm_type_check.specs.declared.FaultKind.TheVariants.{C1, C2, C3, D1, R1, R2, R3, R4, A1}

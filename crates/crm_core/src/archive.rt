@@ -4,7 +4,7 @@ ghost use Rattle.iri_resolve.specs.Splitting.{has_scheme};
 ghost use Rattle.crm_outside.specs.Causes.{Rose};
 ghost use Rattle.crm_outside.specs.Shelves.{held};
 ghost use Rattle.crm_core.specs.Files as spec;
-ghost use Rattle.crm_core.specs.Files.{Answers, IsTold, file_answer};
+ghost use Rattle.crm_core.specs.Files.{Answers, IsOut, IsReadOut, IsTold, file_answer};
 
 use crate::ArchiveFault;
 use crate::feeding::feed_file;
@@ -42,6 +42,7 @@ fn records_of(read: Result<Records, ReadRefusal>) -> Result<Archive, ArchiveFaul
 // Reads the open file as N-Triples.
 fn read_ntriples<S: Shelf>(alloc: Global, shelf: &mut S) -> Result<Archive, ArchiveFault>
     ensures answer { IfSome (S.left shelf.old) (λ bytes. IsTold result (file_answer true bytes)) }
+    ensures out { IsOut (S.left shelf.old) (S.left shelf.new) result }
     ensures failed { IsErrOf result ArchiveFault.Failed → Rose (S.faults shelf.old) (S.faults shelf.new) }
     ensures open { S.honest shelf.old ≡ true → is_some (S.left shelf.old) ≡ true → IsErrOf result ArchiveFault.Failed → ⊥ }
     ensures later { S.faults shelf.old ≤ S.faults shelf.new }
@@ -72,6 +73,7 @@ fn read_turtle<S: Shelf>(
 ) -> Result<Archive, ArchiveFault>
     requires { IfSome base (λ b. IsTrue (has_scheme b.now)) }
     ensures answer { IfSome (S.left shelf.old) (λ bytes. IsTold result (file_answer false bytes)) }
+    ensures out { IsOut (S.left shelf.old) (S.left shelf.new) result }
     ensures failed { IsErrOf result ArchiveFault.Failed → Rose (S.faults shelf.old) (S.faults shelf.new) }
     ensures open { S.honest shelf.old ≡ true → is_some (S.left shelf.old) ≡ true → IsErrOf result ArchiveFault.Failed → ⊥ }
     ensures later { S.faults shelf.old ≤ S.faults shelf.new }
@@ -101,6 +103,8 @@ impl Archive {
     ) -> Result<Archive, ArchiveFault>
         requires { IfSome base (λ b. IsTrue (has_scheme b.now)) }
         ensures answer { Answers (S.files shelf.old) name.now result }
+        // nothing is left of the file, or one byte past the limit of length was taken, unless a call failed or memory was wanting
+        ensures out { IsReadOut (S.files shelf.old) name.now (S.left shelf.new) result }
         ensures failed { IsErrOf result ArchiveFault.Failed → Rose (S.faults shelf.old) (S.faults shelf.new) }
         ensures missing { S.honest shelf.old ≡ true → (IsErrOf result ArchiveFault.Failed ↔ (is_some (held (S.files shelf.old) name.now) ≡ false)) }
         ensures later { S.faults shelf.old ≤ S.faults shelf.new }

@@ -18,6 +18,7 @@ mod writing;
 pub use archive::Archive;
 pub use explaining::{is_blank_name, write_explain};
 pub use order_core::Primitive;
+pub use printing::print_extents;
 pub use reasoning::write_reason;
 pub use status::{ArchiveFault, ReportFault, Status};
 pub use survey::{Survey, take_survey};

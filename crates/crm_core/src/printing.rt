@@ -89,7 +89,8 @@ fn print_extent_lines<W: Sink>(
     Ok(())
 }
 
-fn print_extents<W: Sink>(
+/// Prints the extents, by number, behind their count.
+pub fn print_extents<W: Sink>(
     alloc: Global,
     names: &Names,
     dossier: &Dossier,

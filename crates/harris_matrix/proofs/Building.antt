@@ -1,5 +1,5 @@
 -- The matrix from what was found.
-use Rattle.std.proofs.Common.{arith, zero, suc, ◌≡◌, ◌<◌, ◌≤◌, ◌+◌, ◌^◌, inl, inr, ℕ, Bool, true, false, cond, List, [], ◌∷◌, ◌++◌, length, get_or, refl, sym, ap, ap₂, subst, ◌∙◌}
+use Rattle.std.proofs.Common.{arith, zero, suc, ◌≡◌, ◌<◌, ◌≤◌, ◌^◌, inl, inr, ℕ, Bool, List, [], ◌∷◌, length, get_or, refl, sym, ap, subst, ◌∙◌}
 use Rattle.std.specs.Prelude.{filter}
 use Rattle.std.proofs.lemmas.List.{get_or_append_left, get_or_push, length_push}
 use Rattle.std.proofs.lemmas.Bool.{cases_Bool, cases_eq}
@@ -12,7 +12,7 @@ use Rattle.harris_matrix.specs.declared.cells.CellPair.{CellPair}
 use Rattle.harris_matrix.specs.Cells.{AreExtents, members, comes_before}
 use Rattle.harris_matrix.specs.Covers.{all_covers, starts_of}
 use Rattle.harris_matrix.specs.Levels.{IsLevel, AreLevels, IsOrdering}
-use Rattle.harris_matrix.specs.Matrices.{Cells, IsMatrixOf, cells_below, no_cell, least_of, is_before}
+use Rattle.harris_matrix.specs.Matrices.{IsMatrixOf, cells_below, no_cell, least_of, is_before}
 use Rattle.harris_matrix.specs.Walks.{IsLaidOut}
 use Rattle.harris_matrix.proofs.Pairs.{laid_out}
 use Rattle.harris_matrix.proofs.Agreeing.{all_covers_same, level_same}

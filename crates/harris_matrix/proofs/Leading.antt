@@ -1,8 +1,8 @@
 -- What is before what is exactly what walks of covers show.
-use Rattle.std.proofs.Common.{arith, zero, suc, ◌≡◌, ◌<◌, ◌≤◌, ◌+◌, ◌-◌, ◌↔◌, inl, inr, ℕ, Bool, true, false, cond, List, [], ◌∷◌, ◌++◌, length, get_or, refl, sym, ap, ap₂, subst, ◌∙◌, length-append}
-use Rattle.std.specs.Prelude.{◌&&◌, not}
-use Rattle.std.proofs.lemmas.Bool.{cases_Bool, cases_eq, true≢false}
-use Rattle.std.proofs.lemmas.List.{get_or_append_left, get_or-append_right, get_or_push, length_push}
+use Rattle.std.proofs.Common.{arith, zero, suc, ◌≡◌, ◌<◌, ◌≤◌, ◌+◌, ◌-◌, ◌↔◌, inl, inr, ℕ, Bool, true, false, cond, List, [], ◌∷◌, ◌++◌, length, refl, sym, ap, subst, ◌∙◌, length-append}
+use Rattle.std.specs.Prelude.{◌&&◌}
+use Rattle.std.proofs.lemmas.Bool.{cases_Bool, cases_eq}
+use Rattle.std.proofs.lemmas.List.{get_or_append_left, get_or-append_right}
 use Rattle.harris_matrix.specs.declared.cells.CellPair.{CellPair}
 use Rattle.harris_matrix.specs.Covers.{some_below, covers, pairs_with, covers_of, all_covers}
 use Rattle.harris_matrix.specs.Levels.{count_below}

@@ -1,7 +1,7 @@
 -- The fewest pairs from each cell to a target.
-use Rattle.std.proofs.Common.{arith, zero, suc, ◌≡◌, ◌≢◌, ◌<◌, ◌≤◌, ◌+◌, ◌⊎◌, inl, inr, ℕ, Bool, true, false, cond, Option, Some, None, List, [], ◌∷◌, length, get_or, set, refl, sym, ap, subst, ◌∙◌, get_or-set_other, get_or-set_same, length-set}
+use Rattle.std.proofs.Common.{arith, ◌≡◌, ◌≢◌, ◌<◌, ◌≤◌, ◌+◌, ◌⊎◌, inl, inr, ℕ, true, false, Option, Some, None, List, [], ◌∷◌, length, get_or, set, refl, sym, ap, subst, ◌∙◌, get_or-set_other, get_or-set_same, length-set}
 use Rattle.std.specs.Prelude.{nat_lt}
-use Rattle.std.proofs.lemmas.Bool.{cases_Bool, cases_eq, cases_lt, lt-ltb, le-ltb}
+use Rattle.std.proofs.lemmas.Bool.{cases_eq, cases_lt, lt-ltb, le-ltb}
 use Rattle.harris_matrix.specs.declared.cells.CellPair.{CellPair}
 use Rattle.harris_matrix.specs.Walks.{pair_at, IsWalk, AreStarts, IsForward, IsDistance, AreDistances, length_at, closer, IsNearest}
 

@@ -1,12 +1,12 @@
 -- The list of covers, cell by cell.
-use Rattle.std.proofs.Common.{arith, zero, suc, ◌≡◌, ◌≢◌, ◌<◌, ◌≤◌, ◌+◌, ◌-◌, ◌*◌, ◌^◌, ◌⊎◌, inl, inr, ℕ, Bool, true, false, cond, List, [], ◌∷◌, ◌++◌, length, get_or, refl, sym, ap, ap₂, subst, ◌∙◌, length-append}
+use Rattle.std.proofs.Common.{arith, zero, suc, ◌≡◌, ◌<◌, ◌≤◌, ◌+◌, ◌-◌, ◌*◌, ◌^◌, inl, inr, ℕ, Bool, true, false, cond, List, [], ◌∷◌, ◌++◌, length, get_or, refl, sym, ap, ap₂, subst, ◌∙◌, length-append}
 use Rattle.std.proofs.lemmas.List.{get_or_append_left, get_or-append_right, get_or_push, length_push}
 use Rattle.std.proofs.lemmas.Bool.{cases_Bool, cases_eq, cases_lt}
 use Rattle.std.proofs.Math.Nat.{mul-le-mul_left}
 use Rattle.harris_matrix.specs.declared.cells.CellPair.{CellPair}
 use Rattle.harris_matrix.specs.Covers.{pairs_with, covers, covers_of, all_covers, starts_of}
 use Rattle.harris_matrix.specs.Levels.{IsOrdering}
-use Rattle.harris_matrix.specs.Walks.{no_pair, pair_at, AreStarts, IsForward, IsLaidOut}
+use Rattle.harris_matrix.specs.Walks.{no_pair, pair_at, AreStarts, IsLaidOut}
 use Rattle.std.specs.Prelude.{◌&&◌}
 
 pub pairs_with_same : (i n : ℕ) (s t : ℕ → Bool) → ((j : ℕ) → j < n → s j ≡ t j) → pairs_with i s n ≡ pairs_with i t n

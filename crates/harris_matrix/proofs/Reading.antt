@@ -1,10 +1,10 @@
 -- The first of the shortest walks, read from the lengths.
-use Rattle.std.proofs.Common.{arith, zero, suc, ◌≡◌, ◌≢◌, ◌<◌, ◌≤◌, ◌+◌, ◌⊎◌, inl, inr, ℕ, Option, Some, None, List, [], ◌∷◌, ◌++◌, length, get_or, refl, sym, ap, subst, ◌∙◌, length-append, append_assoc}
+use Rattle.std.proofs.Common.{arith, ◌≡◌, ◌≢◌, ◌<◌, ◌≤◌, ◌+◌, ◌⊎◌, inl, inr, ℕ, Option, Some, None, List, [], ◌∷◌, ◌++◌, length, get_or, refl, sym, ap, subst, ◌∙◌, length-append, append_assoc}
 use Rattle.std.proofs.lemmas.Bool.{cases_eq, cases_lt}
 use Rattle.std.proofs.lemmas.List.{length_push}
-use Rattle.order_laws.specs.Lists.{IsAtMost, IsLess, IsLexicographicallyLess}
+use Rattle.order_laws.specs.Lists.{IsAtMost, IsLexicographicallyLess}
 use Rattle.harris_matrix.specs.declared.cells.CellPair.{CellPair}
-use Rattle.harris_matrix.specs.Walks.{pair_at, IsWalk, IsFirstWalk, IsWalkBetween, AreStarts, IsForward, IsDistance, AreDistances, length_at, IsFirstStep, IsShortestWalk}
+use Rattle.harris_matrix.specs.Walks.{pair_at, IsWalk, IsFirstWalk, AreStarts, IsForward, IsDistance, AreDistances, length_at, IsFirstStep, IsShortestWalk}
 
 some_is : {a b : ℕ} → Some a ≡ Some b → a ≡ b
 some_is e = cc

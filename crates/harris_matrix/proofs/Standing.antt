@@ -1,5 +1,5 @@
 -- For orders without a cycle the extents that end before others are strictly ordered.
-use Rattle.std.proofs.Common.{arith, ◌≡◌, ◌<◌, inl, inr, ℕ, ℤ, Bool, true, false, List, length, get_or, refl, sym, ap, subst, ◌∙◌}
+use Rattle.std.proofs.Common.{◌≡◌, ◌<◌, inl, inr, ℕ, ℤ, Bool, true, false, List, length, get_or, refl, sym, ap, subst, ◌∙◌}
 use Rattle.std.specs.Prelude.{◌||◌}
 use Rattle.std.proofs.lemmas.Bool.{cases_Bool, true≢false}
 use Rattle.order_laws.specs.declared.Point.{Point}
@@ -8,7 +8,7 @@ use Rattle.order_laws.specs.declared.Order.{Order}
 use Rattle.order_laws.specs.declared.Reach.{Reach}
 use Rattle.order_laws.specs.declared.Reach.TheVariants.{None as Nothing, Le, Lt}
 use Rattle.order_laws.specs.Chains.{order_at}
-use Rattle.order_laws.specs.Tables.{IsPoint, is_known, is_strict, IsOrderSet, IsOrderly}
+use Rattle.order_laws.specs.Tables.{is_known, is_strict, IsOrderSet, IsOrderly}
 use Rattle.harris_matrix.specs.Cells.{AreExtents, ends_before, comes_before}
 use Rattle.harris_matrix.specs.Rows.{IsStrictOrder, IsMarked, mark_at}
 use Rattle.harris_matrix.proofs.Agreeing.{order_same}

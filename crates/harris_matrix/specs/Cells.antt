@@ -1,5 +1,5 @@
 -- Cells of periods, their representatives, and which cells come before which, over a table of what follows.
-use Rattle.std.specs.Prelude.{◌<◌, ℕ, Bool, true, false, not, ◌&&◌, ◌||◌, nat_lt, List, [], ◌∷◌, filter, slice_index_or, length}
+use Rattle.std.specs.Prelude.{◌<◌, ℕ, Bool, false, not, ◌&&◌, ◌||◌, nat_lt, List, [], ◌∷◌, filter, slice_index_or, length}
 use Rattle.order_laws.specs.declared.Point.{Point}
 use Rattle.order_laws.specs.declared.Point.TheVariants.{Start, End}
 use Rattle.order_laws.specs.declared.Reach.{Reach}

@@ -1,5 +1,5 @@
 -- Covers: which cells stand directly before which.
-use Rattle.std.specs.Prelude.{zero, suc, ◌≡◌, ◌<◌, ℕ, Bool, true, false, cond, not, ◌&&◌, ◌||◌, List, [], ◌∷◌, ◌++◌, length, slice_index_or}
+use Rattle.std.specs.Prelude.{zero, suc, ℕ, Bool, false, cond, not, ◌&&◌, ◌||◌, List, [], ◌∷◌, ◌++◌, length, slice_index_or}
 use Rattle.harris_matrix.specs.declared.cells.CellPair.{CellPair}
 
 abbrev pub some_below : ℕ → (ℕ → Bool) → Bool

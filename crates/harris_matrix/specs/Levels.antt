@@ -1,5 +1,5 @@
 -- The level of a cell: the greatest number of cells in a list that ends before it, each before the next.
-use Rattle.std.specs.Prelude.{zero, suc, ◌≡◌, ◌<◌, ◌≤◌, ◌+◌, ℕ, Bool, true, false, cond, List, [], ◌∷◌, length, slice_index_or, max}
+use Rattle.std.specs.Prelude.{zero, suc, ◌≡◌, ◌<◌, ◌≤◌, ◌+◌, ℕ, Bool, true, cond, List, [], ◌∷◌, length, slice_index_or, max}
 
 -- a list of cells, from the last one backwards: the first that is named is before j, and each further one
 -- is before the one that is named ahead of it

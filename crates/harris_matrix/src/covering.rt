@@ -4,7 +4,7 @@ ghost use Rattle.harris_matrix.specs.Covers.{covers, is_direct, pairs_with, all_
 ghost use Rattle.harris_matrix.specs.Levels.{IsOrdering};
 ghost use Rattle.harris_matrix.specs.Rows.{mark_at, AreRows, IsStrictOrder};
 
-use crate::rows::{Rows, is_before};
+use crate::rows::{Rows, is_before, row_of};
 use crate::{CellPair, PairList};
 use std::alloc::{AllocError, Global};
 
@@ -16,10 +16,9 @@ fn strike(rows: &Rows, i: u32, struck: &mut [bool])
     ensures { (j : ℕ) → j < rows.now.count →
         slice_index_or struck.new j false ≡ (slice_index_or struck.old j false || mark_at rows.now.count rows.now.marks.items i j) }
 {
-    for j in 0..rows.count {
-        if is_before(rows, i, j) {
-            struck[j as usize] = true;
-        }
+    let row = row_of(rows, i);
+    for j in 0..row.len() {
+        struck[j] = struck[j] || row[j];
     }
 }
 

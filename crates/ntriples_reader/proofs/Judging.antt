@@ -1,15 +1,13 @@
 -- What is said of a text at whose front a token stands, or none.
-use Rattle.std.proofs.Common.{ℕ, zero, suc, List, [], ◌∷◌, ◌++◌, ◌≡◌, ◌<◌, ◌≤◌, ◌-◌, length, take, refl, ap, sym, ◌∙◌, arith}
+use Rattle.std.proofs.Common.{ℕ, List, [], ◌∷◌, ◌++◌, ◌≡◌, ◌<◌, ◌≤◌, length, take, refl, ap, sym, ◌∙◌, arith}
 use Rattle.std.proofs.lemmas.List.{take-append-le}
 use Rattle.std.specs.Prelude.{Option, None, Some, is_some, true, false, cond, Result, Ok, Err, OnOk}
 use Rattle.std.proofs.lemmas.Bool.{true≢false, false≢true}
-use Rattle.rdf_terms.specs.declared.terms.Code.{Code}
 use Rattle.rdf_terms.specs.declared.terms.Code.TheVariants.{G1, G3, L2}
 use Rattle.rdf_terms.specs.declared.terms.Refusal.{Refusal}
 use Rattle.ntriples_tokens.specs.declared.kinds.Kind.{Kind}
 use Rattle.ntriples_tokens.specs.declared.front.Front.TheVariants.{Nothing, Long}
 use Rattle.ntriples_tokens.specs.Items.{Kept, items, items_of, behind, front_items}
-use Rattle.ntriples_tokens.specs.Items.Items.{Item}
 use Rattle.ntriples_reader.specs.declared.store.Held.{Held}
 use Rattle.ntriples_reader.specs.declared.store.Store.{Store}
 use Rattle.ntriples_reader.specs.declared.lines.LinesReader.{LinesReader}

@@ -1,10 +1,10 @@
 -- What a text says: its names and triples, or the first refusal.
-use Rattle.std.specs.Prelude.{ℕ, ◌≡◌, ◌+◌, List, [], ◌∷◌, ◌++◌, cond, Option, None, Some, ⊤}
+use Rattle.std.specs.Prelude.{ℕ, ◌≡◌, List, cond, Option, None, Some, ⊤}
 use Rattle.ntriples_tokens.specs.declared.kinds.Kind.{Kind}
 use Rattle.ntriples_tokens.specs.declared.kinds.Kind.TheVariants as kind
 use Rattle.ntriples_tokens.specs.declared.cutter.Place.TheVariants.{Beginning}
 use Rattle.ntriples_tokens.specs.declared.front.Front.TheVariants.{Token}
-use Rattle.ntriples_tokens.specs.Items.{Items, Kept, items, items_of, front_items}
+use Rattle.ntriples_tokens.specs.Items.{Items, items, items_of, front_items}
 use Rattle.ntriples_tokens.specs.Items.Items.{Stop, Bad, TooLong, Item}
 use Rattle.rdf_terms.specs.declared.terms.Code.{Code}
 use Rattle.rdf_terms.specs.declared.terms.Code.TheVariants.{G1, G3, L2}

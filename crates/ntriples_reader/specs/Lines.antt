@@ -1,5 +1,5 @@
 -- Lines of N-Triples, a token at a time.
-use Rattle.std.specs.Prelude.{ℕ, List, [], ◌∷◌, ◌≡◌, Bool, true, false, cond, codes, Option, None, Some}
+use Rattle.std.specs.Prelude.{ℕ, List, [], Bool, true, false, cond, codes, Option, None, Some}
 use Rattle.rdf_terms.specs.declared.terms.Code.{Code}
 use Rattle.rdf_terms.specs.declared.terms.Code.TheVariants.{G2, G5, G6}
 use Rattle.iri_resolve.specs.Splitting.{has_scheme}

@@ -10,7 +10,6 @@ use Rattle.rdf_terms.specs.declared.terms.Literal.{Literal}
 use Rattle.rdf_terms.specs.declared.terms.Term.{Term}
 use Rattle.rdf_terms.specs.declared.terms.Term.TheVariants as term
 use Rattle.rdf_terms.specs.declared.terms.Triple.{Triple}
-use Rattle.rdf_terms.specs.declared.terms.Refusal.{Refusal}
 use Rattle.ntriples_reader.specs.declared.line.Sort.{Sort}
 use Rattle.ntriples_reader.specs.declared.line.Sort.TheVariants as sort
 use Rattle.ntriples_reader.specs.declared.store.Store.{Store}

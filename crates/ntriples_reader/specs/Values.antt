@@ -1,5 +1,5 @@
 -- What the characters of a token stand for.
-use Rattle.std.specs.Prelude.{ℕ, List, [], ◌∷◌, ◌++◌, ◌+◌, ◌*◌, ◌-◌, ◌==◌, ◌||◌, nat_le, nat_lt, cond, Bool, true, false, not, take, drop, length, map}
+use Rattle.std.specs.Prelude.{ℕ, List, [], ◌∷◌, ◌+◌, ◌*◌, ◌-◌, ◌==◌, ◌||◌, nat_le, nat_lt, cond, Bool, false, not, take, drop, length, map}
 use Rattle.std.specs.Char.{digit_value, to_ascii_lowercase}
 use lib.Utf8.{scalar, encodes}
 use Rattle.text_patterns.specs.Patterns.{within}

@@ -1,6 +1,7 @@
 // Names and triples from characters.
-ghost use Rattle.std.specs.Prelude.{◌≡◌, ℕ, ◌+◌, ◌<◌, ◌≤◌, ◌^◌, List, [], ◌∷◌, ◌++◌, OnOk, IfOk, IfErr, true, None, Some, length, ⊤};
+ghost use Rattle.std.specs.Prelude.{◌≡◌, ℕ, ◌+◌, ◌<◌, ◌≤◌, ◌^◌, List, [], ◌∷◌, ◌++◌, OnOk, IfOk, IfErr, true, None, Some, length, take, ⊤};
 ghost use Rattle.std.specs.Char.{len_utf8};
+ghost use Rattle.std.specs.Str.{IsAscii};
 ghost use Rattle.ntriples_tokens.specs.Widths.{width};
 ghost use Rattle.ntriples_tokens.specs.Items.{items_of, front_items, items_behind};
 ghost use Rattle.ntriples_reader.specs.Answers as spec;
@@ -57,6 +58,19 @@ impl LinesReader {
             self.settle(false)?;
         }
         Ok(())
+    }
+
+    /// Takes those of the first bytes that are ASCII and only lengthen the open token, and says how many these are.
+    pub(crate) fn take_run(&mut self, bytes: &[u8]) -> Result<usize, AllocError>
+        ensures within { IfOk result (λ n. n ≤ length bytes.now) }
+        ensures ascii { IfOk result (λ n. IsAscii (take n bytes.now)) }
+        ensures answer { IfOk result (λ n. (more : List ℕ) → spec.answer_of self.new more ≡ spec.answer_of self.old (take n bytes.now ++ more)) }
+        ensures place { IfOk result (λ n. self.new.cutter.at + width self.new.cutter.chars ≡ self.old.cutter.at + width self.old.cutter.chars + n) }
+    {
+        if self.refusal.is_some() {
+            return Ok(0);
+        }
+        self.cutter.take_run(bytes)
     }
 
     // Takes the token at the front.

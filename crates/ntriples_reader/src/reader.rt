@@ -1,5 +1,5 @@
 // The reader of bytes that come in pieces.
-ghost use Rattle.std.specs.Prelude.{◌≡◌, ℕ, ◌+◌, ◌^◌, ◌<◌, List, [], ◌∷◌, ◌++◌, OnOk, OnErr, IfOk, IfErr, IsErr, Err, true, false, length};
+ghost use Rattle.std.specs.Prelude.{◌≡◌, ℕ, ◌+◌, ◌^◌, ◌<◌, List, [], ◌∷◌, ◌++◌, OnOk, OnErr, IfOk, IfErr, IsErr, Err, true, false, length, take, ◌≤◌};
 ghost use Rattle.ntriples_reader.specs.Feeding.{promised, answer};
 ghost use Rattle.ntriples_reader.specs.Answers as answers;
 
@@ -63,6 +63,49 @@ impl NtReader {
         }
     }
 
+    // Takes those of the first bytes that only lengthen the open token, and says how many these are.
+    fn take_run(&mut self, bytes: &[u8]) -> Result<usize, AllocError>
+        requires room { self.old.fed.count + length bytes.now < 2 ^ 32 }
+        requires fed { self.old.starved ≡ false }
+        ensures within { IfOk result (λ n. n ≤ length bytes.now) }
+        ensures count { IfOk result (λ n. self.new.fed.count ≡ self.old.fed.count + n) }
+        ensures starved { OnOk result (self.new.starved ≡ false) }
+        ensures hungry { OnErr result (self.new.starved ≡ true) }
+        ensures answer { IfOk result (λ n. (more : List ℕ) → promised self.new more ≡ promised self.old (take n bytes.now ++ more)) }
+    {
+        if !self.steps.is_between() {
+            return Ok(0);
+        }
+        let Ok(count) = self.lines.take_run(bytes) else {
+            self.starved = true;
+            return Err(AllocError);
+        };
+        if count > 0 {
+            self.steps.pass(&bytes[..count]);
+        }
+        Ok(count)
+    }
+
+    // Takes the first bytes, at least one, and says how many these are.
+    fn take_some(&mut self, bytes: &[u8]) -> Result<usize, AllocError>
+        requires some { 0 < length bytes.now }
+        requires room { self.old.fed.count + length bytes.now < 2 ^ 32 }
+        requires fed { self.old.starved ≡ false }
+        ensures some { IfOk result (λ n. 0 < n) }
+        ensures within { IfOk result (λ n. n ≤ length bytes.now) }
+        ensures count { IfOk result (λ n. self.new.fed.count ≡ self.old.fed.count + n) }
+        ensures starved { OnOk result (self.new.starved ≡ false) }
+        ensures hungry { OnErr result (self.new.starved ≡ true) }
+        ensures answer { IfOk result (λ n. (more : List ℕ) → promised self.new more ≡ promised self.old (take n bytes.now ++ more)) }
+    {
+        let count = self.take_run(bytes)?;
+        if count == 0 {
+            self.take(bytes[0])?;
+            return Ok(1);
+        }
+        Ok(count)
+    }
+
     /// Takes the next piece. After want of memory each call answers want of memory.
     pub fn feed(&mut self, piece: &[u8]) -> Result<(), AllocError>
         requires { self.old.fed.count + length piece.now < 2 ^ 32 }
@@ -74,8 +117,9 @@ impl NtReader {
         if self.starved {
             return Err(AllocError);
         }
-        for byte in piece {
-            self.take(*byte)?;
+        let mut taken = 0;
+        'bytes: while taken < piece.len() {
+            taken += self.take_some(&piece[taken..])?;
         }
         Ok(())
     }

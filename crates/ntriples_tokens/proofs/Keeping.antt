@@ -1,13 +1,20 @@
 -- A reading goes on with a character, and begins anew behind a token.
-use Rattle.std.proofs.Common.{ℕ, zero, suc, List, [], ◌∷◌, ◌++◌, ◌≡◌, ◌<◌, ◌≤◌, ◌+◌, ◌-◌, length, take, drop, refl, ap, sym, ◌∙◌, arith, append_assoc, length-append}
+use Rattle.std.proofs.Common.{nat_lt, cond, true, subst, false, Some, None, ℕ, zero, suc, List, [], ◌∷◌, ◌++◌, ◌≡◌, ◌<◌, ◌≤◌, ◌+◌, ◌-◌, length, take, drop, refl, ap, sym, ◌∙◌, arith, append_assoc, length-append}
+use Rattle.std.proofs.lemmas.Bool.Decides.{nat_tests}
 use Rattle.std.proofs.Math.Seq.{take-length}
 use Rattle.std.proofs.lemmas.List.{length-drop}
 use Rattle.std.specs.Char.{len_utf8}
+use Rattle.std.proofs.Common.{Option}
+use Rattle.ntriples_tokens.specs.declared.kinds.Kind.{Kind}
 use Rattle.ntriples_tokens.specs.declared.front.Reading.{Reading}
-use Rattle.ntriples_tokens.specs.declared.front.Stepped.TheVariants.{On}
+use Rattle.std.proofs.lemmas.Str.{len_utf8_bounds}
+use Rattle.text_patterns.specs.Machines.{last_after}
+use Rattle.ntriples_tokens.specs.declared.front.Stepped.TheVariants.{On, Ended}
+use Rattle.ntriples_tokens.specs.declared.front.Front.TheVariants.{Long}
+use Rattle.ntriples_tokens.specs.Steps.{next, accepts, class_at}
 use Rattle.ntriples_tokens.specs.declared.cutter.Place.{Place}
 use Rattle.ntriples_tokens.specs.declared.cutter.Place.TheVariants.{Between}
-use Rattle.ntriples_tokens.specs.Fronts.{read_from, front_of, step, goes, start, IsWithin}
+use Rattle.ntriples_tokens.specs.Fronts.{read_from, front_of, step, goes, start, IsWithin, by_state, lengthened}
 use Rattle.ntriples_tokens.specs.Cutting.{IsReading}
 use Rattle.ntriples_tokens.specs.Items.{items, behind}
 use Rattle.ntriples_tokens.specs.Widths.{width}
@@ -65,3 +72,32 @@ pub behind_is : (n : ℕ) (chars more : List ℕ) (at : ℕ) → 0 < n → n ≤
     → items Between 0 (drop n chars ++ more) (at + width (take n chars)) ≡ behind n (chars ++ more) at
 behind_is n [] more at h l = absurd (omega arith)
 behind_is n (c ∷ chars) more at h l = sym (cut_items n c chars more at h l)
+
+narrow_enough : (w c : ℕ) → w < 65533 → nat_lt 65536 (w + len_utf8 c) ≡ false
+narrow_enough w c h = let few : len_utf8 c ≤ 4 = (len_utf8_bounds c).1 in grind (arith, nat_tests, h, few)
+
+-- a character that leaves the state as it is
+pub stays_open : (r : Reading) (c : ℕ) → r.width < 65533 → next r.state (class_at c) ≡ Some r.state → accepts r.state ≡ None → step r c ≡ On (lengthened r c)
+stays_open r c narrow stays none = ap (λ o. by_state o r (len_utf8 c)) stays
+    ∙ ap (λ b. cond b (Ended Long) (On (record { state = r.state; last = last_after (accepts r.state) r.last (r.count + 1); count = r.count + 1; width = r.width + len_utf8 c }))) (narrow_enough r.width c narrow)
+    ∙ ap (λ o. On (record { state = r.state; last = last_after o r.last (r.count + 1); count = r.count + 1; width = r.width + len_utf8 c })) none
+
+within_more : (o : Option (Kind × ℕ)) (n : ℕ) → IsWithin o n → IsWithin o (n + 1)
+within_more None n h = tt
+within_more (Some x) n h = (h.0, (let e : x.1 ≤ n + 1 = omega (arith, h.1) in e))
+
+-- a reading goes on with a character that leaves the state as it is
+pub lengthens_on : (chars : List ℕ) (r : Reading) (c : ℕ) → IsReading chars r → r.count ≡ length chars → step r c ≡ On (lengthened r c) → r.width < 65533
+    → IsReading (chars ++ c ∷ []) (lengthened r c)
+lengthens_on chars r c is all moved narrow = let w : r.width + len_utf8 c ≤ 65536 = omega (arith, narrow, (len_utf8_bounds c).1) in
+    goes_on chars r (lengthened r c) c is all (sym moved) w refl refl (within_more r.last r.count is.last)
+
+pub ascii_width : (c : ℕ) → c < 128 → len_utf8 c ≡ 1
+ascii_width c h = let t : nat_lt c 128 ≡ true = grind (arith, nat_tests, h) in rw t refl
+
+pub ascii_on : (chars : List ℕ) (r : Reading) (c : ℕ) → IsReading chars r → r.count ≡ length chars → step r c ≡ On (lengthened r c) → r.width < 65533 → c < 128
+    → IsReading (chars ++ c ∷ []) (record r { count = r.count + 1; width = r.width + 1 })
+ascii_on chars r c is all moved narrow low = subst (λ w. IsReading (chars ++ c ∷ []) (record r { count = r.count + 1; width = r.width + w })) (ascii_width c low) (lengthens_on chars r c is all moved narrow)
+
+pub ascii_wider : (chars : List ℕ) (c : ℕ) → c < 128 → width (chars ++ c ∷ []) ≡ width chars + 1
+ascii_wider chars c low = width_push chars c ∙ ap (λ w. width chars + w) (ascii_width c low)

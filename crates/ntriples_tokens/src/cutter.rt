@@ -1,6 +1,7 @@
 // Tokens from characters.
-ghost use Rattle.std.specs.Prelude.{◌≡◌, List, [], ◌∷◌, ◌++◌, ℕ, OnOk, OnErr, IfSome, IfNone, true, take, drop, length, ◌≤◌, ◌^◌, ◌<◌, ◌+◌, ◌-◌};
+ghost use Rattle.std.specs.Prelude.{◌≡◌, List, [], ◌∷◌, ◌++◌, ℕ, OnOk, OnErr, IfSome, IfNone, true, take, drop, length, ◌≤◌, ◌^◌, ◌<◌, ◌+◌, ◌-◌, IfOk, false};
 ghost use Rattle.std.specs.Char.{len_utf8};
+ghost use Rattle.std.specs.Str.{IsAscii};
 ghost use Rattle.ntriples_tokens.specs.Items as spec;
 ghost use Rattle.ntriples_tokens.specs.Widths.{width};
 ghost use Rattle.ntriples_tokens.specs.Widths.{width as spec_width};
@@ -115,6 +116,42 @@ impl Cutter {
         }
         self.kept.push(c)?;
         Ok(true)
+    }
+
+    #[tactic(auto, using(crate::proofs::Widths::width_push))]
+    // Takes a byte of ASCII that only lengthens the open token, and says whether it did.
+    fn lengthen(&mut self, byte: u8) -> Result<bool, AllocError>
+        ensures items { IfOk result (λ taken. taken ≡ true → (more : List ℕ) → spec.items_of self.new more ≡ spec.items_of self.old (byte ∷ more)) }
+        ensures place { IfOk result (λ taken. taken ≡ true → self.new.at + width self.new.chars ≡ self.old.at + width self.old.chars + 1) }
+        ensures ascii { IfOk result (λ taken. taken ≡ true → byte < 128) }
+        ensures still { IfOk result (λ taken. taken ≡ false → self.new ≡ self.old) }
+    {
+        let c = char::from(byte);
+        if byte < 128 && self.reading.count == self.kept.len() && self.reading.lengthens(c) {
+            self.kept.push(c)?;
+            self.reading.count += 1;
+            self.reading.width += 1;
+            return Ok(true);
+        }
+        Ok(false)
+    }
+
+    /// Takes those of the first bytes that are ASCII and only lengthen the IRI or the string that is open, and says how
+    /// many these are.
+    pub fn take_run(&mut self, bytes: &[u8]) -> Result<usize, AllocError>
+        ensures within { IfOk result (λ n. n ≤ length bytes.now) }
+        ensures ascii { IfOk result (λ n. IsAscii (take n bytes.now)) }
+        ensures items { IfOk result (λ n. (more : List ℕ) → spec.items_of self.new more ≡ spec.items_of self.old (take n bytes.now ++ more)) }
+        ensures place { IfOk result (λ n. self.new.at + width self.new.chars ≡ self.old.at + width self.old.chars + n) }
+    {
+        let mut count = 0;
+        for byte in bytes {
+            if !self.lengthen(*byte)? {
+                return Ok(count);
+            }
+            count += 1;
+        }
+        Ok(count)
     }
 
     // Drops what stands before the next token.

@@ -1,5 +1,5 @@
 // The token at the front of a text, a character at a time.
-ghost use Rattle.std.specs.Prelude.{◌≡◌, ℕ, ◌+◌, ◌<◌, ◌≤◌, ◌^◌, ◌++◌, List, [], ◌∷◌, length};
+ghost use Rattle.std.specs.Prelude.{◌≡◌, ℕ, ◌+◌, ◌<◌, ◌≤◌, ◌^◌, ◌++◌, List, [], ◌∷◌, length, true};
 ghost use Rattle.text_patterns.specs.Machines.{last_after};
 ghost use Rattle.ntriples_tokens.specs.Fronts as spec;
 ghost use Rattle.ntriples_tokens.specs.Widths as widths;
@@ -87,6 +87,14 @@ impl Reading {
             count,
             width,
         })
+    }
+
+    /// Whether one more character only lengthens the token: then `step` changes the count and the width alone.
+    pub(crate) fn lengthens(&self, c: char) -> bool
+        ensures step { result ≡ true → spec.step self.now c ≡ Stepped.On (spec.lengthened self.now c) }
+        ensures narrow { result ≡ true → self.now.width < 65533 }
+    {
+        self.width < 65_533 && self.state.lengthens(class_of(c))
     }
 
     /// The reading behind one more character.

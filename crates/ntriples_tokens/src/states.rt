@@ -1,5 +1,5 @@
 // What is read of a token, and what one more character does.
-ghost use Rattle.std.specs.Prelude.{◌≡◌};
+ghost use Rattle.std.specs.Prelude.{◌≡◌, true, Some, None};
 ghost use Rattle.ntriples_tokens.specs.Steps.{next, accepts, next_escape, next_text_escape, if_label};
 
 use crate::Kind;
@@ -111,6 +111,27 @@ fn in_label(class: Class) -> Option<State>
 }
 
 impl State {
+    /// Whether a character of this class only lengthens the IRI or the string that is open: the state stays.
+    pub(crate) fn lengthens(self, class: Class) -> bool
+        ensures stays { result ≡ true → next self class ≡ Some self }
+        ensures none { result ≡ true → accepts self ≡ None }
+    {
+        match self {
+            State::Iri => !matches!(
+                class,
+                Class::Less
+                    | Class::Greater
+                    | Class::Quote
+                    | Class::Backslash
+                    | Class::Caret
+                    | Class::LineEnd
+                    | Class::Odd
+            ),
+            State::InText => !matches!(class, Class::Quote | Class::Backslash | Class::LineEnd),
+            _ => false,
+        }
+    }
+
     /// The state behind one more character of this class, if some token goes on so.
     pub(crate) fn next(self, class: Class) -> Option<State>
         ensures { result ≡ next self class }

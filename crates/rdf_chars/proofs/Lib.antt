@@ -1,4 +1,5 @@
 pub mod Bytes
 pub mod Fronts
+pub mod Passing
 pub mod Standing
 pub mod Whole

@@ -13,6 +13,10 @@ abbrev pub before : ℕ → Decoded → Decoded
 before c (Chars chars) = Chars (c ∷ chars)
 before c (BadAt place) = BadAt place
 
+abbrev pub before_all : List ℕ → Decoded → Decoded
+before_all [] d = d
+before_all (c ∷ chars) d = before c (before_all chars d)
+
 abbrev pub by_said : Result (Option ℕ) BadUtf8 → Decoded → Decoded
 by_said (Ok None) d = d
 by_said (Ok (Some c)) d = before c d

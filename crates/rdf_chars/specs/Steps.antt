@@ -39,6 +39,11 @@ fed_by (Inside s) v = record { step = s; from = v.from; count = v.count + 1 }
 abbrev pub fed : Fed → ℕ → Fed
 fed v t = fed_by (pushed v.step t) v
 
+-- and behind these bytes
+abbrev pub fed_all : Fed → List ℕ → Fed
+fed_all v [] = v
+fed_all v (b ∷ bytes) = fed_all (fed v b) bytes
+
 abbrev pub is_idle : Step → Bool
 is_idle Idle = true
 is_idle _ = false

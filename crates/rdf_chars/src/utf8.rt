@@ -1,6 +1,7 @@
 // UTF-8, byte by byte.
-ghost use Rattle.std.specs.Prelude.{◌≡◌, ◌<◌, ◌+◌, ◌*◌, ◌^◌, ◌++◌, ◌∷◌, [], ℕ, List};
+ghost use Rattle.std.specs.Prelude.{◌≡◌, ◌<◌, ◌+◌, ◌*◌, ◌^◌, ◌++◌, ◌∷◌, [], ℕ, List, length, true};
 ghost use Rattle.rdf_chars.specs.Utf8.{Pushes, Finishes};
+ghost use Rattle.std.specs.Str.{IsAscii};
 ghost use Rattle.rdf_chars.specs.Steps.{Stands};
 ghost use Rattle.rdf_chars.specs.Steps as spec;
 
@@ -163,6 +164,27 @@ impl Utf8Steps {
                 }
             }
         }
+    }
+
+    /// Whether no character is open, so that the next one begins with the next byte.
+    pub fn is_between(&self) -> bool
+        ensures { result ≡ spec.is_idle self.now.step }
+    {
+        self.step.is_idle()
+    }
+
+    #[tactic(auto, using(crate::proofs::Passing::passed))]
+    /// Feeds bytes of ASCII at once, at least one, where no character is open: each is a character of its own.
+    pub fn pass(&mut self, bytes: &[u8])
+        requires between { spec.is_idle self.old.step ≡ true }
+        requires some { 0 < length bytes.now }
+        requires ascii { IsAscii bytes.now }
+        requires room { self.old.count + length bytes.now < 2 ^ 32 }
+        ensures count { self.new.count ≡ self.old.count + length bytes.now }
+        ensures fed { self.new ≡ spec.fed_all self.old bytes.now }
+    {
+        self.count += bytes.len() as u64;
+        self.from = self.count;
     }
 
     /// Whether the bytes that were fed are UTF-8.

@@ -1,6 +1,6 @@
 use mir.Syntax.{w128}
 use mir.Val.{SFits}
-use Rattle.std.proofs.Common.{◌≡◌, ℤ, Option, Some, List, IfSome, sym, ap, subst, ◌∙◌, rules}
+use Rattle.std.proofs.Common.{ℤ, Option, Some, List, IfSome, sym, ap, subst, ◌∙◌, rules}
 use Rattle.std.proofs.lemmas.Int.{to_z-of_z}
 use Rattle.std.specs.BTreeSet.{insert_key}
 use Rattle.std.specs.List.{All}

@@ -1,4 +1,4 @@
-use Rattle.std.proofs.Common.{ℕ, ℤ, Option, List, [], ap, ◌∙◌}
+use Rattle.std.proofs.Common.{ℕ, ℤ, Option, [], ap, ◌∙◌}
 use Rattle.std.specs.BTreeSet.{insert_key}
 use Rattle.std.specs.List.{cons_option, fold}
 use Rattle.std.specs.Ordering.{int_cmp}

@@ -1,8 +1,7 @@
-use Rattle.std.proofs.Common.{◌≡◌, ℕ, ◌≤◌, ◌<◌, ◌+◌, ◌-◌, ◌*◌, ◌^◌, ℤ, List, length, sym, ap, subst, ◌∙◌, arith}
+use Rattle.std.proofs.Common.{◌≡◌, ℕ, ℤ, List, length, sym, ap, subst, ◌∙◌, arith}
 use Rattle.order_laws.specs.declared.Order.{Order}
 use Rattle.order_core.specs.Sets.{Orders, AreInRange}
 use Rattle.boundary_orders.specs.Orders.{dates_of, statement_orders}
-use Rattle.boundary_orders.specs.Dossiers.{AreFew}
 use Rattle.boundary_orders.proofs.Counting.{dates_few, orders_few}
 use Rattle.boundary_orders.proofs.Finding.{completed_count}
 use Rattle.boundary_orders.proofs.Holding.{ascends}

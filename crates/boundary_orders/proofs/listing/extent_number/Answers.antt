@@ -1,4 +1,4 @@
-use Rattle.std.proofs.Common.{sym, ◌∙◌}
+use Rattle.std.proofs.Common.{sym}
 use Rattle.boundary_orders.proofs.Finding.{number_found, number_missing}
 use Rattle.boundary_orders.proofs.listing.extent_number.Goals as goal
 

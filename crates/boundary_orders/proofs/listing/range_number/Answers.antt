@@ -1,6 +1,6 @@
 use mir.Syntax.{w128}
 use mir.Val.{SFits}
-use Rattle.std.proofs.Common.{◌≡◌, ℕ, ℤ, Bool, Option, Some, cond, sym, ap, ◌∙◌, rules}
+use Rattle.std.proofs.Common.{ℕ, ℤ, Bool, Some, cond, sym, ap, ◌∙◌, rules}
 use Rattle.std.proofs.lemmas.Int.{to_z-of_z}
 use Rattle.std.specs.Option.{option_map}
 use Rattle.boundary_orders.specs.Orders as spec

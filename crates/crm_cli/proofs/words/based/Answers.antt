@@ -1,4 +1,4 @@
-use Rattle.std.proofs.Common.{◌≡◌, Option, IfOk, length, subst, arith}
+use Rattle.std.proofs.Common.{◌≡◌, Option, IfOk, subst, arith}
 use Rattle.std.specs.Prelude.{map, string_bytes}
 use Rattle.std.proofs.lemmas.List.{length-map}
 use Rattle.crm_cli.specs.declared.words.Command.{Command}

@@ -1,6 +1,6 @@
 use Rattle.std.proofs.Common.{ap, Some, true}
 use Rattle.ntriples_reader.specs.Answers.{Answer}
-use Rattle.crm_core.proofs.Reading.{told, finished, broken_off}
+use Rattle.crm_core.proofs.Reading.{told, finished, broken_off, long_out, whole_out}
 use Rattle.crm_core.proofs.archive.read_ntriples.Goals as goal
 
 pub returns-in-Err-clause-answer : goal.returns-in-Err-clause-answer
@@ -10,3 +10,9 @@ pub returns-clause-answer : goal.returns-clause-answer
 returns-clause-answer g c =
     rw c.records_of.ensures
     (told _ _ _ _ _ c.in-Ok-feed_file.ensures.whole (λ bytes. ap (λ (a : Answer). Some a) (c.in-Ok.ensures.answer bytes)) (finished _ _ c.finish.ensures.ok c.finish.ensures.refused))
+
+pub returns-in-Err-clause-out : goal.returns-in-Err-clause-out
+returns-in-Err-clause-out g c = long_out _ _ _ c.in-Err.ensures.long
+
+pub returns-clause-out : goal.returns-clause-out
+returns-clause-out g c = rw c.records_of.ensures (whole_out _ _ c.finish.result c.in-Ok-feed_file.ensures.whole.end)

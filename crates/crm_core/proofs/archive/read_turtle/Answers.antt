@@ -1,5 +1,5 @@
 use Rattle.std.proofs.Common.{false}
-use Rattle.crm_core.proofs.Reading.{untold, broken_off}
+use Rattle.crm_core.proofs.Reading.{untold, broken_off, long_out, whole_out}
 use Rattle.crm_core.proofs.archive.read_turtle.Goals as goal
 
 pub returns-in-Err-clause-answer : goal.returns-in-Err-clause-answer
@@ -7,3 +7,9 @@ returns-in-Err-clause-answer g c = broken_off false _ _ _ c.in-Err.ensures.long
 
 pub returns-clause-answer : goal.returns-clause-answer
 returns-clause-answer g c = untold _ _ _ _ _ c.in-Ok-feed_file.ensures.whole
+
+pub returns-in-Err-clause-out : goal.returns-in-Err-clause-out
+returns-in-Err-clause-out g c = long_out _ _ _ c.in-Err.ensures.long
+
+pub returns-clause-out : goal.returns-clause-out
+returns-clause-out g c = rw c.records_of.ensures (whole_out _ _ c.finish.result c.in-Ok-feed_file.ensures.whole.end)

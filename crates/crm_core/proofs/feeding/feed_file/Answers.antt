@@ -1,4 +1,4 @@
-use Rattle.std.proofs.Common.{◌∙◌, ◌+◌, arith, rules, drop}
+use Rattle.std.proofs.Common.{◌∙◌, arith, rules, drop}
 use Rattle.crm_core.proofs.Reading.{fed_window, window_count}
 use Rattle.crm_core.proofs.feeding.feed_file.Goals as goal
 

@@ -1,4 +1,3 @@
-use Rattle.std.proofs.Common.{ℤ, List, subst, ◌∙◌, ap}
 use Rattle.std.proofs.lemmas.Result.{err_from_is_err_and}
 use Rattle.crm_outside.proofs.PrintedTexts.{broken_front, broken_later, prints_then}
 use Rattle.crm_core.proofs.printing.print_dossier.Goals as goal

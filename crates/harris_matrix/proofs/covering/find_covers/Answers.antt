@@ -1,4 +1,4 @@
-use Rattle.std.proofs.Common.{arith, ◌≡◌, ◌++◌, ◌∷◌, [], ◌+◌, ◌<◌, ◌∙◌, ap, ap₂, subst, suc, ℕ, Bool, false, List, length, get_or}
+use Rattle.std.proofs.Common.{arith, ◌≡◌, ◌++◌, ◌∷◌, [], ◌+◌, ◌∙◌, ap, ap₂, subst, suc, ℕ, Bool, false, List, length, get_or}
 use Rattle.harris_matrix.specs.declared.cells.CellPair.{CellPair}
 use Rattle.harris_matrix.specs.Covers.{covers, covers_of, starts_of, pairs_with}
 use Rattle.harris_matrix.specs.Rows.{mark_at}

@@ -1,4 +1,4 @@
-use Rattle.std.proofs.Common.{◌≡◌, ◌<◌, length, arith, subst, ℕ}
+use Rattle.std.proofs.Common.{◌≡◌, length, arith, subst, ℕ}
 use Rattle.harris_matrix.specs.Rows.{mark_at}
 use Rattle.harris_matrix.proofs.Striking.{IsMarking, marking_more, marking_ends}
 use Rattle.harris_matrix.proofs.covering.mark_covers.Goals as goal

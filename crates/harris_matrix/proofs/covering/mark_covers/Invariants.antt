@@ -1,4 +1,3 @@
-use Rattle.std.proofs.Common.{◌≡◌, length}
 use Rattle.harris_matrix.specs.Rows.{mark_at}
 use Rattle.harris_matrix.proofs.Striking.{IsMarking}
 use Rattle.harris_matrix.proofs.covering.mark_covers.Given as goal

@@ -1,4 +1,4 @@
-use Rattle.std.proofs.Common.{◌≡◌, ◌+◌, ◌∙◌, sym, subst, Bool, List}
+use Rattle.std.proofs.Common.{◌+◌, sym, subst, Bool, List}
 use Rattle.order_laws.specs.Closure.{reach_between}
 use Rattle.harris_matrix.specs.Cells.{ends_before}
 use Rattle.harris_matrix.specs.Rows.{IsMarked}

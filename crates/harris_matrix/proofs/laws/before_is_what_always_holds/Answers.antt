@@ -1,4 +1,4 @@
-use Rattle.std.proofs.Common.{◌≡◌, ◌↔◌, false, true, length, get_or, ℕ}
+use Rattle.std.proofs.Common.{false, get_or, ℕ}
 use Rattle.order_laws.specs.declared.Point.TheVariants.{Start, End}
 use Rattle.order_laws.specs.Closure.{reach_between}
 use Rattle.harris_matrix.specs.Cells.{is_least}

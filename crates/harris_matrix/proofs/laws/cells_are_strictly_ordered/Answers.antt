@@ -1,6 +1,5 @@
-use Rattle.std.proofs.Common.{◌≡◌, List, length}
 use Rattle.order_laws.specs.Closure.{reach_between}
-use Rattle.harris_matrix.specs.Cells.{AreExtents, is_least}
+use Rattle.harris_matrix.specs.Cells.{is_least}
 use Rattle.harris_matrix.specs.Matrices.{least_of}
 use Rattle.harris_matrix.proofs.Building.{kept_extents}
 use Rattle.harris_matrix.proofs.Standing.{strict_order}

@@ -1,4 +1,4 @@
-use Rattle.std.proofs.Common.{◌≡◌, ◌↔◌, false, true, Bool}
+use Rattle.std.proofs.Common.{false, Bool}
 use Rattle.std.specs.Prelude.{◌&&◌}
 use Rattle.order_laws.specs.declared.Point.TheVariants.{Start, End}
 use Rattle.order_laws.specs.Closure.{reach_between}

@@ -1,4 +1,4 @@
-use Rattle.std.proofs.Common.{◌≡◌, ◌≤◌}
+use Rattle.std.proofs.Common.{◌≡◌}
 use Rattle.harris_matrix.specs.Levels.{above_all}
 use Rattle.harris_matrix.specs.Rows.{mark_at}
 use Rattle.harris_matrix.proofs.levels.above.Given as goal

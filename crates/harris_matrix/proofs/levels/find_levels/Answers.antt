@@ -1,5 +1,4 @@
-use Rattle.std.proofs.Common.{◌≡◌, ◌+◌, ◌<◌, ℕ, List, length, get_or, set, arith, subst, sym}
-use Rattle.harris_matrix.specs.Levels.{above_all}
+use Rattle.std.proofs.Common.{◌≡◌, ◌+◌, ℕ, length, get_or, set, arith, subst, sym}
 use Rattle.harris_matrix.specs.Rows.{mark_at}
 use Rattle.harris_matrix.proofs.Levelling.{IsLevelled, low, levelled_more, levelled_ends}
 use Rattle.harris_matrix.proofs.levels.find_levels.Goals as goal

@@ -1,4 +1,3 @@
-use Rattle.std.proofs.Common.{◌≡◌}
 use Rattle.harris_matrix.specs.Rows.{mark_at}
 use Rattle.harris_matrix.proofs.Levelling.{IsLevelled}
 use Rattle.harris_matrix.proofs.levels.find_levels.Given as goal

@@ -1,4 +1,4 @@
-use Rattle.std.proofs.Common.{rules, arith, ◌≡◌, ◌≤◌, ◌∙◌, List, length, map, take, subst, sym, ap, ℕ}
+use Rattle.std.proofs.Common.{arith, ◌≡◌, ◌∙◌, List, map, take, subst, sym, ap, ℕ}
 use Rattle.std.proofs.lemmas.List.{take_all}
 use Rattle.std.specs.List.Sorted.{IsPermutation}
 use Rattle.harris_matrix.specs.declared.levels.Ranked.{Ranked}

@@ -1,4 +1,4 @@
-use Rattle.std.proofs.Common.{◌≡◌, List, length}
+use Rattle.std.proofs.Common.{List, length}
 use Rattle.order_laws.specs.declared.Order.{Order}
 use Rattle.order_laws.specs.Closure.{reach_between}
 use Rattle.order_laws.specs.Tables.{IsBase, IsOrderly}

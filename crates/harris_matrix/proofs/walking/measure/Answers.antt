@@ -1,4 +1,4 @@
-use Rattle.std.proofs.Common.{arith, ◌≡◌, ◌≢◌, ◌+◌, ◌-◌, ◌<◌, ◌≤◌, ℕ, Option, Some, None, List, length, get_or, set, subst, sym}
+use Rattle.std.proofs.Common.{arith, ◌≡◌, ◌+◌, ◌-◌, ◌<◌, ℕ, Option, List, length, get_or, set, subst, sym}
 use Rattle.harris_matrix.specs.Walks.{IsNearest}
 use Rattle.harris_matrix.proofs.Measuring.{IsMeasured, put_target, put_nearest, measured_ends}
 use Rattle.harris_matrix.proofs.walking.measure.Goals as goal

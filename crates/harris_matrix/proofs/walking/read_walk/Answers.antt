@@ -1,5 +1,5 @@
-use Rattle.std.proofs.Common.{arith, ◌≡◌, ◌+◌, ◌-◌, ◌∷◌, [], ◌++◌, ℕ, List, Some, None, subst, sym}
-use Rattle.harris_matrix.specs.Walks.{pair_at, IsFirstStep}
+use Rattle.std.proofs.Common.{arith, ◌≡◌, ◌+◌, ◌-◌, ℕ, List, subst, sym}
+use Rattle.harris_matrix.specs.Walks.{pair_at}
 use Rattle.harris_matrix.proofs.Reading.{IsRead, read_more, step_found, read_ends}
 use Rattle.harris_matrix.proofs.walking.read_walk.Goals as goal
 

@@ -1,4 +1,4 @@
-use Rattle.std.proofs.Common.{◌≡◌, ℕ, ◌≤◌, ◌*◌, Bool, true, Result, Ok, Err, List, IfOk, IfErr, length, sym, ap, ap₂, subst, arith}
+use Rattle.std.proofs.Common.{◌≡◌, ℕ, Bool, true, Result, Ok, Err, List, IfOk, IfErr, length, sym, ap, ap₂, subst, arith}
 use Rattle.std.specs.List.{All}
 use Rattle.rdf_terms.specs.declared.terms.Term.{Term}
 use Rattle.rdf_terms.specs.Fitting.{is_among}

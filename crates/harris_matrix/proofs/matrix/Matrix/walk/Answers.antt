@@ -1,6 +1,6 @@
-use Rattle.std.proofs.Common.{arith, ◌≡◌, ◌≢◌, ◌<◌, ◌≤◌, ℕ, Option, List, length, ap, subst, sym, ◌∙◌}
+use Rattle.std.proofs.Common.{arith, ℕ, Option, List, length, ap, subst, sym, ◌∙◌}
 use Rattle.harris_matrix.specs.declared.cells.CellPair.{CellPair}
-use Rattle.harris_matrix.specs.Walks.{IsWalk, IsFirstWalk, AreDistances, IsShortestWalk}
+use Rattle.harris_matrix.specs.Walks.{IsWalk, IsFirstWalk, AreDistances}
 use Rattle.harris_matrix.proofs.Reading.{walk_in_range, no_round, first_of_shortest}
 use Rattle.harris_matrix.proofs.matrix.Matrix.walk.Goals as goal
 use Rattle.harris_matrix.proofs.matrix.Matrix.walk.Goals.{then-i-count-via-then-i-count, then-i-count-via-else-i-count+then-j-count, then-i-count-via-else-i-count+else-j-count+then-i-j}

@@ -1,4 +1,4 @@
-use Rattle.std.proofs.Common.{◌++◌, ap, sym, ◌∙◌, ◌≡◌, subst}
+use Rattle.std.proofs.Common.{◌++◌, ap, sym, ◌∙◌}
 use Rattle.ntriples_tokens.specs.Items.{items_of, front_items}
 use Rattle.ntriples_reader.specs.Answers.{answer_of, unless, judge}
 use Rattle.ntriples_reader.proofs.Judging.{none_judged, long_judged, none_is}

@@ -1,4 +1,4 @@
-use Rattle.std.proofs.Common.{ℕ, List, ◌++◌, take, ap, sym, ◌∙◌, ◌≡◌, subst}
+use Rattle.std.proofs.Common.{ℕ, List, ◌++◌, take, ap, sym, ◌∙◌, ◌≡◌}
 use Rattle.std.specs.Prelude.{Some, None}
 use Rattle.ntriples_tokens.specs.Items.{items_of, behind}
 use Rattle.ntriples_reader.specs.Lines.{code_at, line_after}

@@ -1,4 +1,4 @@
-use Rattle.std.proofs.Common.{ap, sym, ◌∙◌, ◌∷◌, subst}
+use Rattle.std.proofs.Common.{ap, sym, ◌∙◌, ◌∷◌}
 use Rattle.rdf_chars.specs.Decoding.{decoded}
 use Rattle.ntriples_reader.specs.Feeding.{promised, by_decoded}
 use Rattle.ntriples_reader.specs.Answers.{answer_of}

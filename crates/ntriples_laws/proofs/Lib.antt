@@ -1,0 +1,15 @@
+mod Trees
+mod Treed
+mod Numbering
+mod Labels
+mod Stepping
+mod Replaying
+mod Reading
+mod Meaning
+mod Canon
+mod Good
+mod Spelled
+mod Bytes
+mod Holding
+mod Terms
+mod Back

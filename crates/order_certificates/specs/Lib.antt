@@ -1,0 +1,4 @@
+pub mod Sharing
+pub mod OrderCertificates
+pub mod Stages
+pub mod Cycles

@@ -1,0 +1,245 @@
+// Certificates of orders.
+ghost use Rattle.std.specs.Prelude.{◌≡◌, ◌++◌, ◌<◌, ◌≤◌, ◌^◌, OnOk, IfOk, length, false};
+ghost use Rattle.order_laws.specs.Tables.{IsPoint};
+ghost use Rattle.order_certificates.specs.OrderCertificates as spec;
+ghost use Rattle.order_certificates.specs.Sharing.{no_lets};
+ghost use Rattle.order_certificates.specs.Stages.{IsRowOf, IsStageOf, text_left, rows_from, row_from};
+
+use crate::basis::Basis;
+use crate::lines::append_place;
+use crate::pairs::{Row, append_pair};
+use crate::pieces::Pieces;
+use crate::sharing::Lets;
+use chain_certificate::Routes;
+use order_core::Point;
+use placing_witness::Placings;
+use std::alloc::{AllocError, Global};
+
+/// What comes next of a certificate of consistent orders.
+#[derive(Drop)]
+pub(crate) enum Stage {
+    /// The first line.
+    Head,
+    /// The plain placing.
+    Plain,
+    /// The placings that delay the boundaries of the period at a place.
+    Delays(usize),
+    /// The row of the period at a place, or the last line behind all.
+    Rows(usize),
+    /// The next pair of a row.
+    Pairs(Row),
+    /// Nothing.
+    Over,
+}
+
+fn append_plain(alloc: Global, placings: &Placings, line: &mut Vec<u8>) -> Result<(), AllocError>
+    ensures { OnOk result (line.new.items ≡ line.old.items ++ spec.plain_place placings.now) }
+{
+    let placing = placings.plain(alloc)?;
+    append_place(&placing, line)
+}
+
+fn append_delay(
+    alloc: Global,
+    placings: &Placings,
+    x: Point,
+    line: &mut Vec<u8>,
+) -> Result<(), AllocError>
+    requires { IsPoint placings.now.extents (length placings.now.dates) x }
+    ensures { OnOk result (line.new.items ≡ line.old.items ++ spec.delay_place placings.now x) }
+{
+    let placing = placings.delaying(alloc, x)?;
+    append_place(&placing, line)
+}
+
+fn append_delays(
+    alloc: Global,
+    placings: &Placings,
+    k: u32,
+    line: &mut Vec<u8>,
+) -> Result<(), AllocError>
+    requires { k < placings.now.extents }
+    ensures { OnOk result (line.new.items ≡ line.old.items ++ spec.delay_places placings.now k) }
+{
+    append_delay(alloc, placings, Point::Start(k), line)?;
+    append_delay(alloc, placings, Point::End(k), line)
+}
+
+// The row of the period at a place, with all pairs still to come.
+fn row_of(basis: &Basis, place: usize, a: u32) -> Result<Row, AllocError>
+    requires within { a < basis.now.set.extents }
+    requires few { place < 2 ^ 20 }
+    ensures row { IfOk result (λ r. IsRowOf basis.now.set r) }
+    ensures period { IfOk result (λ r. r.period ≡ a) }
+    ensures place { IfOk result (λ r. r.place ≡ place) }
+    ensures next { IfOk result (λ r. r.next ≡ 0) }
+{
+    let (alloc, set, edges) = (basis.alloc, basis.set, basis.edges);
+    let from_start = Routes::build_uncounted(alloc, set, edges, Point::Start(a))?;
+    let from_end = Routes::build_uncounted(alloc, set, edges, Point::End(a))?;
+    Ok(Row {
+        period: a,
+        place,
+        next: 0,
+        from_start,
+        from_end,
+    })
+}
+
+// The first line.
+#[tactic(auto, using(crate::proofs::Going::head_more))]
+fn next_head(basis: &Basis, line: &mut Vec<u8>) -> Result<Stage, AllocError>
+    ensures stage { IfOk result (λ s. IsStageOf basis.now.set no_lets s) }
+    ensures text { IfOk result (λ s. line.new.items ++ text_left basis.now.set basis.now.periods no_lets s
+        ≡ line.old.items ++ text_left basis.now.set basis.now.periods no_lets Stage.Head) }
+{
+    line.extend_from_slice(b"crmtime 2 orders\n")?;
+    Ok(Stage::Plain)
+}
+
+// The placings of the period at a place, or nothing behind all.
+fn next_delays(
+    basis: &Basis,
+    placings: &Placings,
+    i: usize,
+    line: &mut Vec<u8>,
+) -> Result<Stage, AllocError>
+    requires same { placings.now ≡ basis.now.set }
+    ensures stage { IfOk result (λ s. IsStageOf basis.now.set no_lets s) }
+    ensures text { IfOk result (λ s. line.new.items ++ text_left basis.now.set basis.now.periods no_lets s
+        ≡ line.old.items ++ text_left basis.now.set basis.now.periods no_lets (Stage.Delays i)) }
+{
+    match basis.period(i) {
+        Some(k) => {
+            append_delays(basis.alloc, placings, k, line)?;
+            Ok(Stage::Delays(i + 1))
+        }
+        None => Ok(Stage::Rows(0)),
+    }
+}
+
+// The row of the period at a place, or the last line behind all.
+fn next_row(
+    basis: &Basis,
+    i: usize,
+    lets: &mut Lets,
+    line: &mut Vec<u8>,
+) -> Result<Stage, AllocError>
+    ensures stage { IfOk result (λ s. IsStageOf basis.now.set lets.new s) }
+    ensures text { IfOk result (λ s. line.new.items ++ text_left basis.now.set basis.now.periods lets.new s
+        ≡ line.old.items ++ rows_from basis.now.set basis.now.periods i lets.old) }
+{
+    match basis.period(i) {
+        Some(a) => {
+            let row = row_of(basis, i, a)?;
+            lets.turn()?;
+            Ok(Stage::Pairs(row))
+        }
+        None => {
+            line.extend_from_slice(b"end\n")?;
+            Ok(Stage::Over)
+        }
+    }
+}
+
+// The next pair of a row, or nothing behind all.
+fn next_pair(
+    basis: &Basis,
+    row: Row,
+    lets: &mut Lets,
+    line: &mut Vec<u8>,
+) -> Result<Stage, AllocError>
+    requires { IsRowOf basis.now.set row }
+    ensures stage { IfOk result (λ s. IsStageOf basis.now.set lets.new s) }
+    ensures text { IfOk result (λ s. line.new.items ++ text_left basis.now.set basis.now.periods lets.new s
+        ≡ line.old.items ++ row_from basis.now.set basis.now.periods row lets.old) }
+{
+    match basis.period(row.next) {
+        Some(b) => {
+            append_pair(basis, &row, b, lets, line)?;
+            Ok(Stage::Pairs(Row {
+                next: row.next + 1,
+                ..row
+            }))
+        }
+        None => Ok(Stage::Rows(row.place + 1)),
+    }
+}
+
+/// A certificate of consistent orders, of which a part may be printed.
+#[derive(Drop)]
+pub struct OrderPieces<'a> {
+    basis: &'a Basis<'a>,
+    placings: &'a Placings<'a>,
+    lets: Lets,
+    stage: Stage,
+}
+
+// What comes behind a stage.
+fn next_stage(
+    basis: &Basis,
+    placings: &Placings,
+    stage: Stage,
+    lets: &mut Lets,
+    line: &mut Vec<u8>,
+) -> Result<Stage, AllocError>
+    requires same { placings.now ≡ basis.now.set }
+    requires stage { IsStageOf basis.now.set lets.old stage }
+    ensures stage { IfOk result (λ s. IsStageOf basis.now.set lets.new s) }
+    ensures text { IfOk result (λ s. line.new.items ++ text_left basis.now.set basis.now.periods lets.new s
+        ≡ line.old.items ++ text_left basis.now.set basis.now.periods lets.old stage) }
+{
+    match stage {
+        Stage::Head => next_head(basis, line),
+        Stage::Plain => {
+            append_plain(basis.alloc, placings, line)?;
+            Ok(Stage::Delays(0))
+        }
+        Stage::Delays(i) => next_delays(basis, placings, i, line),
+        Stage::Rows(i) => next_row(basis, i, lets, line),
+        Stage::Pairs(row) => next_pair(basis, row, lets, line),
+        Stage::Over => Ok(Stage::Over),
+    }
+}
+
+fn is_going_on(stage: &Stage) -> bool
+    ensures { result ≡ false → stage.now ≡ Stage.Over }
+{
+    match stage {
+        Stage::Over => false,
+        _ => true,
+    }
+}
+
+impl<'a> OrderPieces<'a> {
+    /// The certificate of the orders that the placings are of, of which nothing is printed.
+    pub fn new(basis: &'a Basis<'a>, placings: &'a Placings<'a>) -> OrderPieces<'a>
+        requires { placings.now ≡ basis.now.set }
+        ensures sound { ⟦<OrderPieces<'a> as Pieces>⟧.IsSound result }
+        ensures text { ⟦<OrderPieces<'a> as Pieces>⟧.rest result ≡ spec.consistent_text basis.now.set basis.now.periods }
+    {
+        OrderPieces {
+            basis,
+            placings,
+            lets: Lets::new(basis.alloc),
+            stage: Stage::Head,
+        }
+    }
+}
+
+impl<'a> Pieces for OrderPieces<'a> {
+    ghost use Rattle.std.specs.Prelude.{◌≡◌};
+    ghost use Rattle.order_certificates.specs.Stages.{IsStageOf, text_left};
+
+    ghost rest = { λ p. text_left p.basis.now.set p.basis.now.periods p.lets p.stage };
+
+    ghost IsSound = { λ p. (p.placings.now ≡ p.basis.now.set) × IsStageOf p.basis.now.set p.lets p.stage };
+
+    fn append_next(&mut self, line: &mut Vec<u8>) -> Result<bool, AllocError> {
+        let stage = std::mem::replace(&mut self.stage, Stage::Over);
+        let next = next_stage(self.basis, self.placings, stage, &mut self.lets, line)?;
+        let more = is_going_on(&next);
+        self.stage = next;
+        Ok(more)
+    }
+}
