@@ -1,23 +1,53 @@
 -- The base of a command that words name has a scheme.
 use Rattle.std.proofs.Common.{◌≡◌, ℕ, List, [], ◌∷◌, Option, Some, None, true, false, not, ◌<◌, length, refl, sym, ap, ◌∙◌, arith}
-use Rattle.std.specs.Prelude.{◌≢◌, Bool, IfSome, IsTrue, codes, ◌&&◌}
+use Rattle.std.specs.Prelude.{◌≢◌, Bool, IfSome, IsTrue, codes, ◌&&◌, ◌||◌}
 use Rattle.std.specs.Str.{bytes_eq}
 use Rattle.std.specs.List.{list_all}
+use Rattle.std.specs.Option.{option_map}
 use Rattle.std.proofs.lemmas.Bool.{cond_both, and_parts, false≢true}
 use Rattle.std.proofs.lemmas.Slice.Eq.{bytes_eq-Decides}
 use Rattle.order_core.specs.declared.primitives.Primitive.{Primitive}
 use Rattle.iri_resolve.specs.Splitting.{has_scheme}
-use Rattle.crm_cli.specs.Words.{is_iri_byte, is_iri, is_option, is_node_name, file_command, file_form, primitive_of, is_question, explain_by, question_form, form, with_base, based, command_of, IsSound}
+use Rattle.crm_certify.specs.declared.kinds.CertKind.{CertKind}
+use Rattle.crm_cli.specs.declared.words.Command.TheVariants.{Sample}
+use Rattle.crm_cli.specs.Words.{sample_number, sample_form, single_form, kind_of, certify_by, certify_form, verify_form, pair_form, is_iri_byte, is_iri, is_option, is_node_name, file_command, file_form, primitive_of, is_question, explain_by, question_form, form, with_base, based, command_of, IsSound}
 
 file_sound : (name : List ℕ) (base : Option (List ℕ)) (file : List ℕ) → IfSome base (λ b. IsTrue (has_scheme b)) → IsSound (file_command name base file)
 file_sound name base file h =
     cond_both (bytes_eq name (codes "orders")) _ _ IsSound (λ e. (h, tt)) (λ e.
     cond_both (bytes_eq name (codes "check")) _ _ IsSound (λ e. (h, tt)) (λ e.
     cond_both (bytes_eq name (codes "reason")) _ _ IsSound (λ e. (h, tt)) (λ e.
-    cond_both (bytes_eq name (codes "convert")) _ _ IsSound (λ e. (h, tt)) (λ e. tt))))
+    cond_both (bytes_eq name (codes "matrix")) _ _ IsSound (λ e. (h, tt)) (λ e.
+    cond_both (bytes_eq name (codes "convert")) _ _ IsSound (λ e. (h, tt)) (λ e. tt)))))
 
 file_form_sound : (name : List ℕ) (base : Option (List ℕ)) (file : List ℕ) → IfSome base (λ b. IsTrue (has_scheme b)) → IsSound (file_form name base file)
 file_form_sound name base file h = cond_both (is_option file) _ _ IsSound (λ e. tt) (λ e. file_sound name base file h)
+
+numbered_sound : (o : Option ℕ) → IsSound (option_map (λ n. Sample n) o)
+numbered_sound None = tt
+numbered_sound (Some n) = (tt, tt)
+
+sample_sound : (base : Option (List ℕ)) (word : List ℕ) → IsSound (sample_form base word)
+sample_sound None word = numbered_sound (sample_number word)
+sample_sound (Some base) word = tt
+
+single_sound : (name : List ℕ) (base : Option (List ℕ)) (word : List ℕ) → IfSome base (λ b. IsTrue (has_scheme b)) → IsSound (single_form name base word)
+single_sound name base word h = cond_both (bytes_eq name (codes "sample")) _ _ IsSound (λ e. sample_sound base word) (λ e. file_form_sound name base word h)
+
+kind_sound : (base : Option (List ℕ)) (k : Option CertKind) (file : List ℕ) → IfSome base (λ b. IsTrue (has_scheme b)) → IsSound (certify_by base k file)
+kind_sound base None file h = tt
+kind_sound base (Some k) file h = (h, tt)
+
+certify_sound : (base : Option (List ℕ)) (kind file : List ℕ) → IfSome base (λ b. IsTrue (has_scheme b)) → IsSound (certify_form base kind file)
+certify_sound base kind file h = cond_both (is_option file) _ _ IsSound (λ e. tt) (λ e. kind_sound base (kind_of kind) file h)
+
+verify_sound : (base : Option (List ℕ)) (file cert : List ℕ) → IfSome base (λ b. IsTrue (has_scheme b)) → IsSound (verify_form base file cert)
+verify_sound base file cert h = cond_both (is_option file || is_option cert) _ _ IsSound (λ e. tt) (λ e. (h, tt))
+
+pair_sound : (name : List ℕ) (base : Option (List ℕ)) (first second : List ℕ) → IfSome base (λ b. IsTrue (has_scheme b)) → IsSound (pair_form name base first second)
+pair_sound name base first second h =
+    cond_both (bytes_eq name (codes "certify")) _ _ IsSound (λ e. certify_sound base first second h) (λ e.
+    cond_both (bytes_eq name (codes "verify")) _ _ IsSound (λ e. verify_sound base first second h) (λ e. tt))
 
 last_of_five : (a b c d e : Bool) → (a && b && c && d && e) ≡ true → e ≡ true
 last_of_five true true true true e h = h
@@ -43,8 +73,8 @@ question_sound name base file a code b h =
 
 form_sound : (name : List ℕ) (base : Option (List ℕ)) (words : List (List ℕ)) → IfSome base (λ b. IsTrue (has_scheme b)) → IsSound (form name base words)
 form_sound name base [] h = tt
-form_sound name base (file ∷ []) h = file_form_sound name base file h
-form_sound name base (file ∷ a ∷ []) h = tt
+form_sound name base (file ∷ []) h = single_sound name base file h
+form_sound name base (file ∷ a ∷ []) h = pair_sound name base file a h
 form_sound name base (file ∷ a ∷ code ∷ []) h = tt
 form_sound name base (file ∷ a ∷ code ∷ b ∷ []) h = question_sound name base file a code b h
 form_sound name base (file ∷ a ∷ code ∷ b ∷ more ∷ words) h = tt

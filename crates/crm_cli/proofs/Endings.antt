@@ -3,6 +3,7 @@ use Rattle.std.proofs.Common.{◌≡◌, ℕ, ◌≤◌, List, length, sym, subs
 use Rattle.std.specs.Prelude.{IfSome, ◌⊎◌, Result, Ok, Err}
 use Rattle.crm_outside.specs.Causes.{Rose}
 use Rattle.crm_outside.specs.Shelves.{Files, held}
+use Rattle.crm_outside.proofs.PrintedTexts.{starved}
 use Rattle.crm_core.specs.declared.status.Status.{Status}
 use Rattle.crm_core.specs.declared.status.Status.TheVariants.{Done, Findings, Refused, Usage, ReadFault, WriteFault, Memory}
 use Rattle.crm_core.specs.declared.status.ReportFault.{ReportFault}
@@ -13,7 +14,9 @@ use Rattle.rdf_terms.specs.declared.triples.Records.{Records}
 use Rattle.ntriples_reader.specs.Answers.{Answer}
 use Rattle.crm_cli.specs.declared.words.Command.{Command}
 use Rattle.crm_cli.specs.Outcomes.{Outcome, Ends, IsComplete, Faulted, ended}
-use Rattle.crm_cli.specs.Report.{read_fault_report, file_report, usage_report, command_report, records_report, answer_report, told_report}
+use Rattle.crm_matrix.specs.Samples.{sample_report}
+use Rattle.crm_cli.specs.Words.{sample_of}
+use Rattle.crm_cli.specs.Report.{read_fault_report, file_report, usage_report, command_report, records_report, answer_report, told_report, report_over, sample_or}
 
 module _ {S : Type 0} (written : S → Option (List ℕ)) (faults sure : S → ℕ) (a b : S) where
   module _ (status : Status) where
@@ -36,9 +39,9 @@ module _ {S : Type 0} (written : S → Option (List ℕ)) (faults sure : S → �
     faulted command name None rose r p = tt
     faulted command name (Some files) rose r p = inr (r, p)
 
--- what was written of records is the end of their file's report
-module _ {S : Type 0} (written : S → Option (List ℕ)) (faults sure : S → ℕ) (a b : S) (command : Command) (name : List ℕ) (r : Records) where
-  written_ends : (p : Report) (w : Result Status ReportFault) → Writes written faults sure a b p w → Outcome written faults sure a b p (ended w)
+-- what was written of a report is its end
+module _ {S : Type 0} (written : S → Option (List ℕ)) (faults sure : S → ℕ) (a b : S) where
+  pub written_ends : (p : Report) (w : Result Status ReportFault) → Writes written faults sure a b p w → Outcome written faults sure a b p (ended w)
   written_ends p (Ok Done) h = (sym h.status.0, h.ok)
   written_ends p (Ok Findings) h = (sym h.status.0, h.ok)
   written_ends p (Ok Refused) h = (sym h.status.0, h.ok)
@@ -49,26 +52,50 @@ module _ {S : Type 0} (written : S → Option (List ℕ)) (faults sure : S → �
   written_ends p (Err report.Failed) h = h.err
   written_ends p (Err report.Memory) h = h.err
 
-  module _ (w : Result Status ReportFault) (h : Writes written faults sure a b (records_report command r) w) where
-    by_answer : (o : Option Answer) → IsTold (Ok r) o → Ends written faults sure a b (told_report command o) (ended w)
-    by_answer None told = tt
-    by_answer (Some x) told = subst (λ y. Outcome written faults sure a b (answer_report command y) (ended w)) (sym told) (written_ends (records_report command r) w h)
+  pub told_ends : (o : Option Report) (w : Result Status ReportFault) → IfSome o (λ p. Writes written faults sure a b p w) → Ends written faults sure a b o (ended w)
+  told_ends None w h = tt
+  told_ends (Some p) w h = written_ends p w h
 
-    by_bytes : (o : Option (List ℕ)) → AnswersBytes (is_ntriples name) o (Ok r) → Ends written faults sure a b (file_report command name o) (ended w)
-    by_bytes None told = absurd told
-    by_bytes (Some bytes) told = by_answer (file_answer (is_ntriples name) bytes) told
+-- what is said of records is the end of their file's report
+module _ {S : Type 0} (written : S → Option (List ℕ)) (faults sure : S → ℕ) (a b : S) (command : Command) (name : List ℕ) (r : Records) (s : Status)
+    (h : Ends written faults sure a b (records_report command r) s) where
+  by_answer : (o : Option Answer) → IsTold (Ok r) o → Ends written faults sure a b (told_report command o) s
+  by_answer None told = tt
+  by_answer (Some x) told = subst (λ (y : Answer). Ends written faults sure a b (answer_report command y) s) (sym told) h
 
-    module _ (s : Status) (is : s ≡ ended w) where
-      at_status : (o : Option (List ℕ)) → AnswersBytes (is_ntriples name) o (Ok r) → Ends written faults sure a b (file_report command name o) s
-      at_status o told = subst (λ x. Ends written faults sure a b (file_report command name o) x) (sym is) (by_bytes o told)
+  by_bytes : (o : Option (List ℕ)) → AnswersBytes (is_ntriples name) o (Ok r) → Ends written faults sure a b (file_report command name o) s
+  by_bytes None told = absurd told
+  by_bytes (Some bytes) told = by_answer (file_answer (is_ntriples name) bytes) told
 
-      pub records_end : (o : Option Files) → Answers o name (Ok r) → IfSome o (λ files. Ends written faults sure a b (file_report command name (files name)) s)
-      records_end None told = tt
-      records_end (Some files) told = at_status (files name) told
+  pub records_end : (o : Option Files) → Answers o name (Ok r) → IfSome o (λ files. Ends written faults sure a b (file_report command name (files name)) s)
+  records_end None told = tt
+  records_end (Some files) told = by_bytes (files name) told
 
-      pub records_end_or : (X : Type 0) (o : Option Files) → Answers o name (Ok r) → IfSome o (λ files. Ends written faults sure a b (file_report command name (files name)) s ⊎ X)
-      records_end_or X None told = tt
-      records_end_or X (Some files) told = inl (at_status (files name) told)
+  pub records_end_or : (X : Type 0) (o : Option Files) → Answers o name (Ok r) → IfSome o (λ files. Ends written faults sure a b (file_report command name (files name)) s ⊎ X)
+  records_end_or X None told = tt
+  records_end_or X (Some files) told = inl (by_bytes (files name) told)
+
+-- what a command says that asks for a sample, and one that does not
+module _ {S : Type 0} (written : S → Option (List ℕ)) (faults sure : S → ℕ) (a b : S) (command : Command) (s : Status) where
+  pub sample_ends : (n : ℕ) → sample_of command ≡ Some n → Outcome written faults sure a b (sample_report n) s → (o : Option Files) →
+      IfSome o (λ files. Ends written faults sure a b (command_report (Some command) files) s)
+  sample_ends n e h None = tt
+  sample_ends n e h (Some files) = subst (λ (m : Option ℕ). Ends written faults sure a b (sample_or m (report_over command files)) s) (sym e) h
+
+  pub sample_ends_or : (X : Type 0) (n : ℕ) → sample_of command ≡ Some n → Outcome written faults sure a b (sample_report n) s → (o : Option Files) →
+      IfSome o (λ files. Ends written faults sure a b (command_report (Some command) files) s ⊎ X)
+  sample_ends_or X n e h None = tt
+  sample_ends_or X n e h (Some files) = inl (subst (λ (m : Option ℕ). Ends written faults sure a b (sample_or m (report_over command files)) s) (sym e) h)
+
+  pub file_ends : sample_of command ≡ None → (o : Option Files) → IfSome o (λ files. Ends written faults sure a b (report_over command files) s) →
+      IfSome o (λ files. Ends written faults sure a b (command_report (Some command) files) s)
+  file_ends e None h = tt
+  file_ends e (Some files) h = subst (λ (m : Option ℕ). Ends written faults sure a b (sample_or m (report_over command files)) s) (sym e) h
+
+  pub file_ends_or : (X : Type 0) → sample_of command ≡ None → (o : Option Files) → IfSome o (λ files. Ends written faults sure a b (report_over command files) s ⊎ X) →
+      IfSome o (λ files. Ends written faults sure a b (command_report (Some command) files) s ⊎ X)
+  file_ends_or X e None h = tt
+  file_ends_or X e (Some files) h = subst (λ (m : Option ℕ). Ends written faults sure a b (sample_or m (report_over command files)) s ⊎ X) (sym e) h
 
 module _ {S : Type 0} (written : S → Option (List ℕ)) (faults sure : S → ℕ) (a b : S) (status : Status) (rose : Type 0) where
   abbrev AtCommand : Option Files → Option Command → Type 0
@@ -134,3 +161,24 @@ module _ {S : Type 0} (written : S → Option (List ℕ)) (faults sure : S → �
       → IfSome o (λ files. IfSome (command_report command files) (λ r. length r.text ≤ sure a → IsComplete written faults sure a b r status))
   certain None command p = tt
   certain (Some f) command p = sure_told (command_report command f) p
+
+-- a report that broke off at the sink
+module _ {S : Type 0} (written : S → Option (List ℕ)) (faults sure : S → ℕ) (a b : S) where
+  pub failed : (p : Report) (w : Result Status ReportFault) → Writes written faults sure a b p w → w ≡ Err report.Failed → Rose (faults a) (faults b)
+  failed p (Ok s) h e = absurd (let never : ⊥ = cc in never)
+  failed p (Err report.Failed) h e = h.err.cause refl
+  failed p (Err report.Memory) h e = absurd (let never : ⊥ = cc in never)
+
+-- memory was wanting before anything was printed
+module _ {S : Type 0} (written : S → Option (List ℕ)) (faults sure : S → ℕ) (a : S) where
+  starved_ends : (o : Option Report) → Ends written faults sure a a o Memory
+  starved_ends None = tt
+  starved_ends (Some r) = starved written faults sure a r.text
+
+  pub starved_told : (told : Files → Option Report) (o : Option Files) → IfSome o (λ files. Ends written faults sure a a (told files) Memory)
+  starved_told told None = tt
+  starved_told told (Some files) = starved_ends (told files)
+
+  pub starved_told_or : (told : Files → Option Report) (X : Type 0) (o : Option Files) → IfSome o (λ files. Ends written faults sure a a (told files) Memory ⊎ X)
+  starved_told_or told X None = tt
+  starved_told_or told X (Some files) = inl (starved_ends (told files))

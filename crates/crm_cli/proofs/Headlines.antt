@@ -22,11 +22,11 @@ use Rattle.crm_core.specs.Texts.{check_text, orders_text}
 use Rattle.crm_core.proofs.Limits.{within}
 use Rattle.crm_core.proofs.Naming.{few_of, period_within}
 use Rattle.crm_cli.specs.declared.words.Command.{Command}
-use Rattle.crm_cli.specs.declared.words.Command.TheVariants.{Orders as OrdersCommand, Check, Reason, Explain, Convert}
+use Rattle.crm_cli.specs.declared.words.Command.TheVariants.{Orders as OrdersCommand, Check, Reason, Explain, Certify, Verify, Matrix, Convert, Sample}
 use Rattle.crm_cli.specs.Headline.{IsTrueReason, IsTrueAnswer, IsReasoned, IsExplained, IsReport, IsSaid, Says, SaysTruly, answer_at, front_of}
 use Rattle.crm_cli.specs.Outcomes.{Outcome, Ends, Faulted}
-use Rattle.crm_cli.specs.Report.{command_report, file_report, read_fault_report, records_report, told_report}
-use Rattle.crm_cli.specs.Words.{file_of}
+use Rattle.crm_cli.specs.Report.{command_report, file_report, read_fault_report, records_report, report_over, sample_or, told_report}
+use Rattle.crm_cli.specs.Words.{file_of, sample_of}
 
 module _
     (reasons : (set : Orders) (periods front : List ℕ) → IsOrderSet set.list set.extents set.dates → AreExtents set.extents periods →
@@ -82,10 +82,14 @@ module _
     };
   }
 
-  says : (command : Command) (r : Records) → IsReport status → Outcome written faults sure a b (records_report command r) status → Says written a b command r
+  says : (command : Command) (r : Records) → IsReport status → Ends written faults sure a b (records_report command r) status → Says written a b command r
   says (OrdersCommand base file) r is p = tt
   says (Check base file) r is p = tt
+  says (Certify base k file) r is p = tt
+  says (Verify base file cert) r is p = tt
+  says (Matrix base file) r is p = tt
   says (Convert base file) r is p = tt
+  says (Sample n) r is p = tt
   says (Reason base file) r is p =
       let got = whole (within_limits (findings_from r) (reasons_report r)) is p in
       let few = few_of (findings_from r) (reasons_report r) status (not_refused is) got.0 in
@@ -107,6 +111,20 @@ module _
   told command r (Some bytes) e is p =
       says command r is (subst (λ (x : Option Answer). Ends written faults sure a b (told_report command x) status) e p)
 
+  -- a sample reads no file
+  over : (command : Command) (r : Records) (n : Option ℕ) → sample_of command ≡ n → (files : Files) → answer_at (file_of command) (files (file_of command)) ≡ Some (Read r) →
+      IsReport status → Ends written faults sure a b (sample_or n (report_over command files)) status → Says written a b command r
+  over command r None e files at is p = told command r (files (file_of command)) at is p
+  over (Sample m) r (Some n) e files at is p = tt
+  over (OrdersCommand base file) r (Some n) e files at is p = tt
+  over (Check base file) r (Some n) e files at is p = tt
+  over (Reason base file) r (Some n) e files at is p = absurd (let never : ⊥ = cc in never)
+  over (Explain base file left code right) r (Some n) e files at is p = absurd (let never : ⊥ = cc in never)
+  over (Certify base k file) r (Some n) e files at is p = tt
+  over (Verify base file cert) r (Some n) e files at is p = tt
+  over (Matrix base file) r (Some n) e files at is p = tt
+  over (Convert base file) r (Some n) e files at is p = tt
+
   pub headline : (rose : Type 0) (o : Option Files) (command : Option Command) →
       IfSome o (λ files. Ends written faults sure a b (command_report command files) status ⊎ Faulted written faults sure a b rose command status) →
       IfSome o (λ files. SaysTruly written a b files command status)
@@ -114,6 +132,6 @@ module _
   headline rose (Some files) None p = tt
   headline rose (Some files) (Some command) p = λ r e is.
       elim p [
-        | inl ends ↦ told command r (files (file_of command)) e is ends
+        | inl ends ↦ over command r (sample_of command) refl files e is ends
         | inr faulted ↦ absurd (not_read_fault is (whole (read_fault_report (file_of command)) is faulted.1).0)
       ]

@@ -3,3 +3,5 @@ pub mod Bases
 pub mod Truths
 pub mod Usages
 pub mod Headlines
+pub mod Verdicts
+pub mod Samples

@@ -1,5 +1,5 @@
 -- What a run says of a file is true of every placing.
-use Rattle.std.specs.Prelude.{◌≡◌, ◌≢◌, ◌⊎◌, ◌↔◌, ⊤, ℕ, List, ◌++◌, length, Option, Some, None}
+use Rattle.std.specs.Prelude.{◌≡◌, ◌≢◌, ◌⊎◌, ◌↔◌, ⊤, ℕ, List, ◌++◌, length, Option, Some, None, IfSome}
 use Rattle.std.specs.List.{Contains}
 use Rattle.std.specs.Io.KnownBytes.{Appends}
 use Rattle.rdf_terms.specs.declared.triples.Records.{Records}
@@ -26,9 +26,11 @@ use Rattle.crm_core.specs.Explained.{period_lines, period_named}
 use Rattle.crm_core.specs.Files.{file_answer, is_ntriples}
 use Rattle.crm_core.specs.Reports.{faults_in, findings_from}
 use Rattle.crm_core.specs.Texts.{check_text, orders_text}
+use Rattle.certificate_checker.specs.declared.verdicts.Verdict.{Verdict}
+use Rattle.crm_certify.specs.Verdicts.{IsBorneOut, verdict_text}
 use Rattle.crm_cli.specs.declared.words.Command.{Command}
-use Rattle.crm_cli.specs.declared.words.Command.TheVariants.{Orders as OrdersCommand, Check, Reason, Explain, Convert}
-use Rattle.crm_cli.specs.Words.{file_of}
+use Rattle.crm_cli.specs.declared.words.Command.TheVariants.{Orders as OrdersCommand, Check, Reason, Explain, Certify, Verify, Matrix, Convert, Sample}
+use Rattle.crm_cli.specs.Words.{certificate_of, file_of}
 
 -- some placing satisfies all orders
 abbrev pub HasPlacing : Orders → Type 0
@@ -99,6 +101,12 @@ abbrev pub answer_at : List ℕ → Option (List ℕ) → Option Answer
 answer_at name None = None
 answer_at name (Some bytes) = file_answer (is_ntriples name) bytes
 
+-- what `verify` says where it accepts a certificate is true of the records: they bear out what the verdict claims
+pub record IsTrueVerdict (r : Records) (cert text : List ℕ) : Type 0 where
+  pub verdict : Verdict
+  pub says : text ≡ verdict_text verdict
+  pub borne_out : IsBorneOut (findings_from r).orders (findings_from r).periods cert verdict
+
 -- the whole report was written, and it is no refusal
 abbrev pub IsReport : Status → Type 0
 IsReport status = (status ≡ Done) ⊎ (status ≡ Findings)
@@ -115,10 +123,24 @@ module _ {S : Type 0} (written : S → Option (List ℕ)) (old new : S) where
   Says (Check base file) r = ⊤
   Says (Reason base file) r = IsSaid (IsReasoned r)
   Says (Explain base file a code b) r = IsSaid (IsExplained r a code b)
+  Says (Certify base k file) r = ⊤
+  Says (Verify base file cert) r = ⊤
+  Says (Matrix base file) r = ⊤
   Says (Convert base file) r = ⊤
+  Says (Sample n) r = ⊤
 
   -- where the file of a command is read to records and the report was written, it says what is true of them
   abbrev pub SaysTruly : Files → Option Command → Status → Type 0
   SaysTruly files None status = ⊤
   SaysTruly files (Some command) status =
       (r : Records) → answer_at (file_of command) (files (file_of command)) ≡ Some (Read r) → IsReport status → Says command r
+
+  -- of the file of a certificate, where it is held
+  abbrev pub SaysVerdict : Files → Option (List ℕ) → Records → Type 0
+  SaysVerdict files None r = ⊤
+  SaysVerdict files (Some cert) r = IfSome (files cert) (λ bytes. IsSaid (IsTrueVerdict r bytes))
+
+  -- where the file of a command is read to records and its certificate is accepted, the verdict is true of them
+  abbrev pub JudgesTruly : Files → Command → Status → Type 0
+  JudgesTruly files command status =
+      (r : Records) → answer_at (file_of command) (files (file_of command)) ≡ Some (Read r) → IsReport status → SaysVerdict files (certificate_of command) r

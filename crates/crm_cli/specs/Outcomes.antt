@@ -13,7 +13,7 @@ use Rattle.crm_core.specs.Explained.{period_named}
 use Rattle.crm_core.specs.Files.{Answers}
 use Rattle.crm_core.specs.Reports.{Report, findings_from}
 use Rattle.crm_cli.specs.declared.words.Command.{Command}
-use Rattle.crm_cli.specs.declared.words.Command.TheVariants.{Orders, Check, Reason, Explain, Convert}
+use Rattle.crm_cli.specs.declared.words.Command.TheVariants.{Orders, Check, Reason, Explain, Certify, Verify, Matrix, Convert, Sample}
 use Rattle.crm_cli.specs.Words.{file_of}
 use Rattle.crm_cli.specs.Report.{read_fault_report}
 
@@ -31,7 +31,11 @@ NamesNoPeriod (Reason base file) r = ⊥
 NamesNoPeriod (Explain base file a code b) r =
     AreFew (findings_from r)
     × ((period_named r.names (findings_from r).extents a ≡ None) ⊎ (period_named r.names (findings_from r).extents b ≡ None))
+NamesNoPeriod (Certify base k file) r = ⊥
+NamesNoPeriod (Verify base file cert) r = ⊥
+NamesNoPeriod (Matrix base file) r = ⊥
 NamesNoPeriod (Convert base file) r = ⊥
+NamesNoPeriod (Sample n) r = ⊥
 
 -- the file of a command is read to such records
 pub record AsksInVain (files : Option Files) (command : Command) : Type 0 where

@@ -8,26 +8,41 @@ use Rattle.crm_core.specs.declared.status.Status.TheVariants.{Usage, ReadFault}
 use Rattle.crm_core.specs.Explained.{explain_report}
 use Rattle.crm_core.specs.Files.{file_answer, is_ntriples}
 use Rattle.crm_core.specs.Reports.{Report, orders_report, check_report, reason_report, convert_report, refusal_report}
+use Rattle.crm_matrix.specs.MatrixTexts.{matrix_report}
+use Rattle.crm_matrix.specs.Samples.{sample_report}
+use Rattle.crm_certify.specs.declared.kinds.CertKind.{CertKind}
+use Rattle.crm_certify.specs.declared.kinds.CertKind.TheVariants as kind
+use Rattle.crm_certify.specs.Certificates.{orders_certificate}
 use Rattle.crm_cli.specs.declared.words.Command.{Command}
-use Rattle.crm_cli.specs.declared.words.Command.TheVariants.{Orders, Check, Reason, Explain, Convert}
-use Rattle.crm_cli.specs.Words.{command_of, file_of}
+use Rattle.crm_cli.specs.declared.words.Command.TheVariants.{Orders, Check, Reason, Explain, Certify, Verify, Matrix, Convert, Sample}
+use Rattle.crm_cli.specs.Words.{command_of, file_of, sample_of}
 
--- of the records of a file
-abbrev pub records_report : Command → Records → Report
-records_report (Orders base file) r = orders_report r
-records_report (Check base file) r = check_report r
-records_report (Reason base file) r = reason_report r
-records_report (Explain base file a code b) r = explain_report r a code b
-records_report (Convert base file) r = convert_report r
+-- of certificates, that of the orders is told
+abbrev pub certificate_report : CertKind → Records → Option Report
+certificate_report kind.Orders r = Some (orders_certificate r)
+certificate_report kind.Classes r = None
+certificate_report kind.Matrix r = None
+
+-- of the records of a file; what is said of a certificate is not told here
+abbrev pub records_report : Command → Records → Option Report
+records_report (Orders base file) r = Some (orders_report r)
+records_report (Check base file) r = Some (check_report r)
+records_report (Reason base file) r = Some (reason_report r)
+records_report (Explain base file a code b) r = Some (explain_report r a code b)
+records_report (Certify base k file) r = certificate_report k r
+records_report (Verify base file cert) r = None
+records_report (Matrix base file) r = Some (matrix_report r)
+records_report (Convert base file) r = Some (convert_report r)
+records_report (Sample n) r = Some (sample_report n)
 
 -- of the records of a file, or of its refusal
-abbrev pub answer_report : Command → Answer → Report
+abbrev pub answer_report : Command → Answer → Option Report
 answer_report command (Read r) = records_report command r
-answer_report command (Refuse code at) = refusal_report (record { code = code; at = at })
+answer_report command (Refuse code at) = Some (refusal_report (record { code = code; at = at }))
 
 abbrev pub told_report : Command → Option Answer → Option Report
 told_report command None = None
-told_report command (Some a) = Some (answer_report command a)
+told_report command (Some a) = answer_report command a
 
 abbrev pub read_fault_text : List ℕ → List ℕ
 read_fault_text name = codes "read fault " ++ (name ++ codes "\n")
@@ -43,9 +58,18 @@ file_report command name (Some bytes) = told_report command (file_answer (is_ntr
 abbrev pub usage_report : Report
 usage_report = record { status = Usage; text = codes "usage: crm_cli COMMAND [--base IRI] WORDS\n" }
 
+-- of a command with a file
+abbrev pub report_over : Command → Files → Option Report
+report_over command files = file_report command (file_of command) (files (file_of command))
+
+-- a sample has no file
+abbrev pub sample_or : Option ℕ → Option Report → Option Report
+sample_or None o = o
+sample_or (Some n) o = Some (sample_report n)
+
 abbrev pub command_report : Option Command → Files → Option Report
 command_report None files = Some usage_report
-command_report (Some command) files = file_report command (file_of command) (files (file_of command))
+command_report (Some command) files = sample_or (sample_of command) (report_over command files)
 
 abbrev pub report : List (List ℕ) → Files → Option Report
 report words files = command_report (command_of words) files

@@ -20,6 +20,10 @@ const REASONS: &str =
 const CIRCLE: &str =
     "<http://e/a> <http://www.cidoc-crm.org/cidoc-crm/P183> <http://e/b> .\n<http://e/b> <http://www.cidoc-crm.org/cidoc-crm/P183> <http://e/a> .\n";
 
+// The certificate of the orders of the two contexts.
+const CERTIFICATE: &str =
+    "crmtime 1 orders\nplace 0/0 0/1 0/1 0/3\nplace 0/0 0/1 0/1 0/3\nplace 0/0 0/1 0/1 0/3\nplace 0/0 0/1 0/2 0/3\nplace 0/0 0/1 0/1 0/3\npair x0 x1 se lt j(o1,j(o0,o2))\npair x0 x1 ss lt j(o1,o0)\npair x0 x1 es le o0 p2\npair x0 x1 ee lt j(o0,o2)\npair x1 x0 se no p3\npair x1 x0 ss no p3\npair x1 x0 es no p4\npair x1 x0 ee no p4\nend\n";
+
 const USAGE: &str = "usage: crm_cli COMMAND [--base IRI] WORDS\n";
 
 fn words_of(alloc: Global, words: &[&str]) -> Result<Vec<String>, AllocError> {
@@ -77,7 +81,51 @@ fn prints_reports_and_refusals(rt: HostRuntime) -> Result<(), Fail> {
             Status::Usage,
             USAGE,
         ),
-        (["matrix", "a.nt"].as_slice(), PLAIN, Status::Usage, USAGE),
+        (
+            ["matrix", "a.nt"].as_slice(),
+            PLAIN,
+            Status::Done,
+            "extents 2\nx0 period <http://e/a>\nx1 period <http://e/b>\ncells 2\nc0 level 0 x0\nc1 level 0 x1\ncovers 0\n",
+        ),
+        (
+            ["certify", "matrix", "a.nt"].as_slice(),
+            PLAIN,
+            Status::Done,
+            "crmtime 1 matrix\nend\n",
+        ),
+        (
+            ["certify", "names", "a.nt"].as_slice(),
+            PLAIN,
+            Status::Usage,
+            USAGE,
+        ),
+        (
+            ["verify", "a.nt", "a.nt"].as_slice(),
+            PLAIN,
+            Status::Refused,
+            "refused certificate K1 at 0\n",
+        ),
+        (
+            ["verify", "a.nt", "b"].as_slice(),
+            PLAIN,
+            Status::ReadFault,
+            "read fault b\n",
+        ),
+        (["verify", "a.nt"].as_slice(), PLAIN, Status::Usage, USAGE),
+        (
+            ["sample", "1"].as_slice(),
+            PLAIN,
+            Status::Done,
+            "sample 1\ntriples 4\nfaults 0\nextents 2\ndates 2\norders 9\nconsistent\nrelations 0\ncells 1\ncovers 0\nlevels 1\n",
+        ),
+        (["sample", "01"].as_slice(), PLAIN, Status::Usage, USAGE),
+        (["sample", "1000"].as_slice(), PLAIN, Status::Usage, USAGE),
+        (
+            ["sample", "--base", "http://e/", "1"].as_slice(),
+            PLAIN,
+            Status::Usage,
+            USAGE,
+        ),
     ] {
         let given = words_of(alloc, words)?;
         let mut shelf = shelf_of(alloc, file, Numbers::new(alloc))?;
@@ -222,6 +270,37 @@ fn tells_faults_of_devices(rt: HostRuntime) -> Result<(), Fail> {
     ] {
         let mut shelf = shelf_of(alloc, PLAIN, shelf_fails)?;
         let mut out = MemSink::new(alloc, room, 3, sink_fails)?;
+        assert_eq!(rt; run(alloc, given.as_slice(), &mut shelf, &mut out), status);
+        assert_eq!(rt; out.written(), text.as_bytes());
+    }
+    Ok(())
+}
+
+// With a shelf that fails one call: the file whose call it was, until no call is left that fails.
+#[test]
+fn verifies_over_devices_that_fail(rt: HostRuntime) -> Result<(), Fail> {
+    let alloc = rt.alloc();
+    let given = words_of(alloc, &["verify", "a.nt", "cert"])?;
+    for (call, status, text) in [
+        (0, Status::ReadFault, "read fault a.nt\n"),
+        (1, Status::ReadFault, "read fault a.nt\n"),
+        (2, Status::ReadFault, "read fault a.nt\n"),
+        (3, Status::ReadFault, "read fault cert\n"),
+        (4, Status::ReadFault, "read fault cert\n"),
+        (5, Status::ReadFault, "read fault cert\n"),
+        (6, Status::Done, "verified consistent\n"),
+    ] {
+        let mut files = FileList::new(alloc);
+        for (name, text) in [("a.nt", CONTEXTS), ("cert", CERTIFICATE)] {
+            files.push(FileEntry {
+                name: Text::from_str(alloc, name)?,
+                bytes: Bytes::from_vec(text.as_bytes().to_vec(alloc)?),
+            })?;
+        }
+        let mut fails = Numbers::new(alloc);
+        fails.push(call)?;
+        let mut shelf = MemShelf::new(files, fails);
+        let mut out = MemSink::new(alloc, 99, 7, Numbers::new(alloc))?;
         assert_eq!(rt; run(alloc, given.as_slice(), &mut shelf, &mut out), status);
         assert_eq!(rt; out.written(), text.as_bytes());
     }

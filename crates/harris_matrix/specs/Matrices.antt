@@ -15,6 +15,11 @@ pub record Cells : Type 0 where
   pub cells : List Cell
   pub covers : List CellPair
 
+-- what contracts see of the walks to a cell
+pub record Target : Type 0 where
+  pub covers : List CellPair
+  pub target : ℕ
+
 -- stands where no cell has the number; the definitions below never look there
 abbrev pub no_cell : Cell
 no_cell = record { extents = []; level = 0 }

@@ -8,9 +8,11 @@ pub mod laws;
 mod levels;
 mod matrix;
 mod rows;
+mod targets;
 #[cfg(test)]
 mod tests;
 mod walking;
 
 pub use cells::{Cell, CellList, CellPair, PairList};
 pub use matrix::Matrix;
+pub use targets::WalksTo;

@@ -1,17 +1,18 @@
 // The Harris matrix.
-ghost use Rattle.std.specs.Prelude.{◌≡◌, ◌<◌, ◌≤◌, ◌^◌, ◌*◌, ℕ, IfOk, length, slice_index_or};
+ghost use Rattle.std.specs.Prelude.{◌≡◌, ◌<◌, ◌≤◌, ◌^◌, ◌*◌, ℕ, IfOk, MatchOption, None, length, slice_index_or};
 ghost use Rattle.order_laws.specs.Chains.{HasCycle};
 ghost use Rattle.order_laws.specs.Closure.{reach_between};
 ghost use Rattle.order_closure.specs.Closures.{IsClosureOf};
 ghost use Rattle.harris_matrix.specs.Cells.{AreExtents, ends_before, comes_before};
 ghost use Rattle.harris_matrix.specs.Matrices.{IsMatrixOf, cells_below};
-ghost use Rattle.harris_matrix.specs.Walks.{IsWalkBetween};
+ghost use Rattle.harris_matrix.specs.Walks.{AreDistances, IsWalkBetween};
 ghost use Rattle.harris_matrix.specs.Rows.{AreRows, IsMarked, IsStrictOrder, mark_at};
 
 use crate::covering::find_covers;
 use crate::finding::{mark_rows, members, representatives};
 use crate::levels::{find_levels, order_cells};
 use crate::rows::Rows;
+use crate::targets::WalksTo;
 use crate::walking::{measure, read_walk};
 use crate::{Cell, CellList, PairList};
 use crm_outside::Numbers;
@@ -137,23 +138,57 @@ impl Matrix {
         &self.covers
     }
 
+    /// The walks to cell j; None exactly where there is no such cell, to which no walk leads.
+    pub fn walks_to(&self, alloc: Global, j: u32) -> Result<Option<WalksTo<'_>>, AllocError>
+        ensures { IfOk result (λ o. MatchOption o ((length self.now.cells ≤ j) × ((i : ℕ) → IsWalkBetween self.now.covers i j None))
+            (λ w. w ≡ record { covers = self.now.covers; target = j })) }
+    {
+        let count = self.cells.len() as u32;
+        if j >= count {
+            return Ok(None);
+        }
+        let pairs = self.covers.as_slice();
+        let lengths = measure(alloc, pairs, &self.starts, &self.order, count, j)?;
+        Ok(Some(WalksTo {
+            matrix: self,
+            target: j,
+            lengths,
+        }))
+    }
+
+    // The walk from cell i to the cell that the lengths are of.
+    pub(crate) fn walk_by(
+        &self,
+        alloc: Global,
+        lengths: &[Option<usize>],
+        i: u32,
+        j: u32,
+    ) -> Result<Option<Numbers>, AllocError>
+        requires { AreDistances (length self.now.cells) self.now.covers j lengths.now }
+        ensures { IfOk result (IsWalkBetween self.now.covers i j) }
+    {
+        let count = self.cells.len() as u32;
+        if i >= count || i == j {
+            return Ok(None);
+        }
+        match lengths[i as usize] {
+            None => Ok(None),
+            Some(size) => {
+                let pairs = self.covers.as_slice();
+                let walk = read_walk(alloc, pairs, &self.starts, lengths, count, i, size)?;
+                Ok(Some(walk))
+            }
+        }
+    }
+
     /// The walk from cell i to cell j along the fewest covers, and among these the one with the least list of
     /// cover numbers; None exactly where cell i is not before cell j.
     pub fn walk(&self, alloc: Global, i: u32, j: u32) -> Result<Option<Numbers>, AllocError>
         ensures { IfOk result (IsWalkBetween self.now.covers i j) }
     {
-        let count = self.cells.len() as u32;
-        if i >= count || j >= count || i == j {
-            return Ok(None);
-        }
-        let pairs = self.covers.as_slice();
-        let lengths = measure(alloc, pairs, &self.starts, &self.order, count, j)?;
-        match lengths[i as usize] {
+        match self.walks_to(alloc, j)? {
             None => Ok(None),
-            Some(size) => {
-                let walk = read_walk(alloc, pairs, &self.starts, &lengths, count, i, size)?;
-                Ok(Some(walk))
-            }
+            Some(walks) => walks.from(alloc, i),
         }
     }
 }

@@ -1,5 +1,5 @@
 // What the characters of a token stand for.
-ghost use Rattle.std.specs.Prelude.{◌≡◌, ◌≤◌, ◌++◌, OnOk, IfOk, string_bytes, map, drop};
+ghost use Rattle.std.specs.Prelude.{◌≡◌, ◌≤◌, ◌++◌, OnOk, IfOk, string_bytes, drop, length};
 ghost use Rattle.std.specs.Char.{digit_value, to_ascii_lowercase};
 ghost use Rattle.text_patterns.specs.Patterns.{within};
 ghost use Rattle.ntriples_reader.specs.Values as spec;
@@ -69,12 +69,29 @@ fn is_excluded(c: char) -> bool
     )
 }
 
-// Puts the value of these characters into `out`, and says whether an escape gives a character that no IRI may have.
-pub(crate) fn put_value(chars: &[char], out: &mut String) -> Result<bool, AllocError>
-    ensures value { OnOk result (string_bytes out.new ≡ encodes (spec.value_from Pending.Plain chars.now)) }
+// Appends the characters before the first backslash, and says how many these are.
+fn push_plain(chars: &[char], out: &mut String) -> Result<usize, AllocError>
+    ensures within { IfOk result (λ n. n ≤ length chars.now) }
+    ensures value { IfOk result (λ n. string_bytes out.new ++ encodes (spec.value_from Pending.Plain (drop n chars.now))
+        ≡ string_bytes out.old ++ encodes (spec.value_from Pending.Plain chars.now)) }
+    ensures bad { IfOk result (λ n. spec.bad_from Pending.Plain (drop n chars.now) ≡ spec.bad_from Pending.Plain chars.now) }
+{
+    let mut count = 0;
+    for c in chars {
+        if *c == '\\' {
+            return Ok(count);
+        }
+        out.push(*c)?;
+        count += 1;
+    }
+    Ok(count)
+}
+
+// Appends the value of these characters, and says whether an escape gives a character that no IRI may have.
+fn push_value(chars: &[char], out: &mut String) -> Result<bool, AllocError>
+    ensures value { OnOk result (string_bytes out.new ≡ string_bytes out.old ++ encodes (spec.value_from Pending.Plain chars.now)) }
     ensures bad { IfOk result (λ b. b ≡ spec.bad_from Pending.Plain chars.now) }
 {
-    out.clear();
     let mut bad = false;
     let mut pending = Pending::Plain;
     for c in chars {
@@ -108,4 +125,18 @@ pub(crate) fn put_value(chars: &[char], out: &mut String) -> Result<bool, AllocE
         }
     }
     Ok(bad)
+}
+
+// Puts the value of these characters into `out`, and says whether an escape gives a character that no IRI may have.
+pub(crate) fn put_value(chars: &[char], out: &mut String) -> Result<bool, AllocError>
+    ensures value { OnOk result (string_bytes out.new ≡ encodes (spec.value_from Pending.Plain chars.now)) }
+    ensures bad { IfOk result (λ b. b ≡ spec.bad_from Pending.Plain chars.now) }
+{
+    out.clear();
+    // most values have no escape
+    let plain = push_plain(chars, out)?;
+    if plain == chars.len() {
+        return Ok(false);
+    }
+    push_value(&chars[plain..], out)
 }

@@ -1,5 +1,5 @@
 -- A reading goes on with a character, and begins anew behind a token.
-use Rattle.std.proofs.Common.{nat_lt, cond, true, subst, false, Some, None, ℕ, zero, suc, List, [], ◌∷◌, ◌++◌, ◌≡◌, ◌<◌, ◌≤◌, ◌+◌, ◌-◌, length, take, drop, refl, ap, sym, ◌∙◌, arith, append_assoc, length-append}
+use Rattle.std.proofs.Common.{nat_lt, cond, true, false, Some, None, ℕ, zero, suc, List, [], ◌∷◌, ◌++◌, ◌≡◌, ◌<◌, ◌≤◌, ◌+◌, ◌-◌, length, take, drop, slice_index, refl, ap, ap₂, sym, ◌∙◌, arith, append_assoc, length-append}
 use Rattle.std.proofs.lemmas.Bool.Decides.{nat_tests}
 use Rattle.std.proofs.Math.Seq.{take-length}
 use Rattle.std.proofs.lemmas.List.{length-drop}
@@ -10,15 +10,17 @@ use Rattle.ntriples_tokens.specs.declared.front.Reading.{Reading}
 use Rattle.std.proofs.lemmas.Str.{len_utf8_bounds}
 use Rattle.text_patterns.specs.Machines.{last_after}
 use Rattle.ntriples_tokens.specs.declared.front.Stepped.TheVariants.{On, Ended}
+use Rattle.std.specs.Str.{IsAscii}
+use Rattle.ntriples_tokens.specs.declared.front.Front.{Front}
 use Rattle.ntriples_tokens.specs.declared.front.Front.TheVariants.{Long}
 use Rattle.ntriples_tokens.specs.Steps.{next, accepts, class_at}
 use Rattle.ntriples_tokens.specs.declared.cutter.Place.{Place}
 use Rattle.ntriples_tokens.specs.declared.cutter.Place.TheVariants.{Between}
-use Rattle.ntriples_tokens.specs.Fronts.{read_from, front_of, step, goes, start, IsWithin, by_state, lengthened}
+use Rattle.ntriples_tokens.specs.Fronts.{read_from, front_of, step, goes, start, IsWithin, by_state, run_on}
 use Rattle.ntriples_tokens.specs.Cutting.{IsReading}
 use Rattle.ntriples_tokens.specs.Items.{items, behind}
 use Rattle.ntriples_tokens.specs.Widths.{width}
-use Rattle.ntriples_tokens.proofs.Widths.{width_push, width_split}
+use Rattle.ntriples_tokens.proofs.Widths.{width-append, width_push, width_split}
 
 drop_all : (n : ℕ) (a : List ℕ) → length a ≤ n → drop n a ≡ []
 drop_all zero [] h = refl
@@ -77,27 +79,74 @@ narrow_enough : (w c : ℕ) → w < 65533 → nat_lt 65536 (w + len_utf8 c) ≡ 
 narrow_enough w c h = let few : len_utf8 c ≤ 4 = (len_utf8_bounds c).1 in grind (arith, nat_tests, h, few)
 
 -- a character that leaves the state as it is
-pub stays_open : (r : Reading) (c : ℕ) → r.width < 65533 → next r.state (class_at c) ≡ Some r.state → accepts r.state ≡ None → step r c ≡ On (lengthened r c)
+stays_open : (r : Reading) (c : ℕ) → r.width < 65533 → next r.state (class_at c) ≡ Some r.state → accepts r.state ≡ None
+    → step r c ≡ On (record r { count = r.count + 1; width = r.width + len_utf8 c })
 stays_open r c narrow stays none = ap (λ o. by_state o r (len_utf8 c)) stays
     ∙ ap (λ b. cond b (Ended Long) (On (record { state = r.state; last = last_after (accepts r.state) r.last (r.count + 1); count = r.count + 1; width = r.width + len_utf8 c }))) (narrow_enough r.width c narrow)
     ∙ ap (λ o. On (record { state = r.state; last = last_after o r.last (r.count + 1); count = r.count + 1; width = r.width + len_utf8 c })) none
 
-within_more : (o : Option (Kind × ℕ)) (n : ℕ) → IsWithin o n → IsWithin o (n + 1)
-within_more None n h = tt
-within_more (Some x) n h = (h.0, (let e : x.1 ≤ n + 1 = omega (arith, h.1) in e))
-
--- a reading goes on with a character that leaves the state as it is
-pub lengthens_on : (chars : List ℕ) (r : Reading) (c : ℕ) → IsReading chars r → r.count ≡ length chars → step r c ≡ On (lengthened r c) → r.width < 65533
-    → IsReading (chars ++ c ∷ []) (lengthened r c)
-lengthens_on chars r c is all moved narrow = let w : r.width + len_utf8 c ≤ 65536 = omega (arith, narrow, (len_utf8_bounds c).1) in
-    goes_on chars r (lengthened r c) c is all (sym moved) w refl refl (within_more r.last r.count is.last)
-
-pub ascii_width : (c : ℕ) → c < 128 → len_utf8 c ≡ 1
+ascii_width : (c : ℕ) → c < 128 → len_utf8 c ≡ 1
 ascii_width c h = let t : nat_lt c 128 ≡ true = grind (arith, nat_tests, h) in rw t refl
 
-pub ascii_on : (chars : List ℕ) (r : Reading) (c : ℕ) → IsReading chars r → r.count ≡ length chars → step r c ≡ On (lengthened r c) → r.width < 65533 → c < 128
-    → IsReading (chars ++ c ∷ []) (record r { count = r.count + 1; width = r.width + 1 })
-ascii_on chars r c is all moved narrow low = subst (λ w. IsReading (chars ++ c ∷ []) (record r { count = r.count + 1; width = r.width + w })) (ascii_width c low) (lengthens_on chars r c is all moved narrow)
+abbrev at_once : Reading → List ℕ → ℕ → ℕ → Front
+at_once r more k w = read_from (record r { count = k; width = w }) more
 
-pub ascii_wider : (chars : List ℕ) (c : ℕ) → c < 128 → width (chars ++ c ∷ []) ≡ width chars + 1
-ascii_wider chars c low = width_push chars c ∙ ap (λ w. width chars + w) (ascii_width c low)
+pub run_none : (r : Reading) (more : List ℕ) → read_from r more ≡ read_from (run_on r 0) more
+run_none r more = ap₂ (at_once r more) (let e : r.count ≡ r.count + 0 = omega arith in e) (let e : r.width ≡ r.width + 0 = omega arith in e)
+
+-- a run goes on with an ASCII character that leaves the state as it is
+pub run_one : (r : Reading) (n c : ℕ) (more : List ℕ) → r.width + n < 65533 → c < 128 → next r.state (class_at c) ≡ Some r.state → accepts r.state ≡ None
+    → read_from (run_on r n) (c ∷ more) ≡ read_from (run_on r (n + 1)) more
+run_one r n c more narrow low stays none = ap (λ s. goes s (λ p. read_from p more) (λ f. f)) (stays_open (run_on r n) c narrow stays none)
+    ∙ ap₂ (at_once r more) (let e : r.count + n + 1 ≡ r.count + (n + 1) = omega arith in e)
+    (let e : r.width + n + len_utf8 c ≡ r.width + (n + 1) = omega (arith, ascii_width c low) in e)
+
+ascii_run_width : (run : List ℕ) → IsAscii run → width run ≡ length run
+ascii_run_width [] h = refl
+ascii_run_width (c ∷ run) h = omega (arith, ascii_width c (h 0), ascii_run_width run (λ i. h (suc i)))
+
+within_more : (o : Option (Kind × ℕ)) (n m : ℕ) → IsWithin o n → IsWithin o (n + m)
+within_more None n m h = tt
+within_more (Some x) n m h = (h.0, (let e : x.1 ≤ n + m = omega (arith, h.1) in e))
+
+pub run_wider : (chars run : List ℕ) (n : ℕ) → length run ≡ n → IsAscii run → width (chars ++ run) ≡ width chars + n
+run_wider chars run n long ascii = omega (arith, long, ascii_run_width run ascii, width-append chars run)
+
+-- a run of n ASCII characters is kept and read at once
+pub run_kept : (chars : List ℕ) (r : Reading) (run : List ℕ) (n : ℕ) → IsReading chars r → r.count ≡ length chars → length run ≡ n → IsAscii run → r.width + n ≤ 65536
+    → ((more : List ℕ) → read_from r (run ++ more) ≡ read_from (run_on r n) more) → IsReading (chars ++ run) (run_on r n)
+run_kept chars r run n is all long ascii narrow runs =
+    let whole : r.count + n ≡ length (chars ++ run) = omega (arith, all, long, length-append chars run) in
+    record {
+      count = omega (arith, whole);
+      narrow = narrow;
+      width = (let sum : r.width + n ≡ width (chars ++ run) = omega (arith, is.width ∙ ap width (ap (λ k. take k chars) all ∙ take-length chars), run_wider chars run n long ascii) in sum)
+          ∙ ap width (sym (ap (λ k. take k (chars ++ run)) whole ∙ take-length (chars ++ run)));
+      last = within_more r.last r.count n is.last;
+      reads = λ more. ap front_of (append_assoc chars run more) ∙ is.reads (run ++ more)
+          ∙ ap (λ x. read_from r (x ++ (run ++ more))) (drop_all r.count chars (omega (arith, all)))
+          ∙ runs more
+          ∙ ap (λ x. read_from (run_on r n) (x ++ more)) (sym (drop_all (r.count + n) (chars ++ run) (omega (arith, whole))));
+    }
+
+pub ascii_next : (i : ℕ) (front : List ℕ) → IsAscii (take i front) → slice_index front i < 128 → IsAscii (take (suc i) front)
+ascii_next zero [] h low k = h k
+ascii_next zero (c ∷ front) h low zero = low
+ascii_next zero (c ∷ front) h low (suc k) = h k
+ascii_next (suc i) [] h low k = h k
+ascii_next (suc i) (c ∷ front) h low zero = h 0
+ascii_next (suc i) (c ∷ front) h low (suc k) = ascii_next i front (λ j. h (suc j)) low k
+
+take_next : (i : ℕ) (front more : List ℕ) → i < length front → take (suc i) front ++ more ≡ take i front ++ slice_index front i ∷ more
+take_next zero [] more h = absurd (omega (arith, h))
+take_next zero (c ∷ front) more h = refl
+take_next (suc i) [] more h = absurd (omega (arith, h))
+take_next (suc i) (c ∷ front) more h = ap (λ x. c ∷ x) (take_next i front more (omega (arith, h)))
+
+-- one more byte of a run
+pub run_next : (r : Reading) (i : ℕ) (front : List ℕ) → i < length front → r.width + i < 65533 → slice_index front i < 128
+    → next r.state (class_at (slice_index front i)) ≡ Some r.state → accepts r.state ≡ None
+    → ((more : List ℕ) → read_from r (take i front ++ more) ≡ read_from (run_on r i) more)
+    → (more : List ℕ) → read_from r (take (suc i) front ++ more) ≡ read_from (run_on r (i + 1)) more
+run_next r i front h narrow low stays none runs more = ap (read_from r) (take_next i front more h) ∙ runs (slice_index front i ∷ more)
+    ∙ run_one r i (slice_index front i) more narrow low stays none

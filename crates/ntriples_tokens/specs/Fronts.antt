@@ -31,9 +31,9 @@ by_state (Some q) r w = to r q w
 abbrev pub step : Reading → ℕ → Stepped
 step r c = by_state (next r.state (class_at c)) r (len_utf8 c)
 
--- behind one more character that leaves the state as it is
-abbrev pub lengthened : Reading → ℕ → Reading
-lengthened r c = record r { count = r.count + 1; width = r.width + len_utf8 c }
+-- behind n more ASCII characters that leave the state as it is
+abbrev pub run_on : Reading → ℕ → Reading
+run_on r n = record r { count = r.count + n; width = r.width + n }
 
 abbrev pub goes : {A : Type 0} → Stepped → (Reading → A) → (Front → A) → A
 goes (On r) f g = f r

@@ -139,6 +139,14 @@ fn is_inside(c: char) -> bool
     matches!(c, '\u{B7}' | '\u{300}'..='\u{36F}' | '\u{203F}'..='\u{2040}')
 }
 
+/// What an ASCII character is to the machine.
+pub(crate) fn ascii_class(byte: u8) -> Class
+    requires { byte < 128 }
+    ensures { result ≡ class_at byte }
+{
+    numbered(ASCII[byte as usize])
+}
+
 /// What a character is to the machine.
 pub(crate) fn class_of(c: char) -> Class
     ensures class { result ≡ class_at c }
@@ -146,7 +154,7 @@ pub(crate) fn class_of(c: char) -> Class
 {
     let n = c as u32;
     if n < 128 {
-        numbered(ASCII[n as usize])
+        ascii_class(n as u8)
     } else if is_label(c) {
         Class::Labels
     } else if is_inside(c) {

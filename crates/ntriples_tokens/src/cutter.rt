@@ -79,6 +79,18 @@ fn width_of(chars: &[char]) -> u64
     sum
 }
 
+// Appends characters of ASCII.
+fn keep(kept: &mut Vec<char>, bytes: &[u8]) -> Result<(), AllocError>
+    ensures ok { OnOk result (kept.new.items ≡ kept.old.items ++ bytes.now) }
+    ensures err { OnErr result (kept.new.items ≡ kept.old.items) }
+{
+    kept.reserve(bytes.len())?;
+    for byte in bytes {
+        kept.push_reserved(char::from(*byte));
+    }
+    Ok(())
+}
+
 impl Cutter {
     /// A cutter at the beginning of a text.
     pub fn new(alloc: Global) -> Cutter
@@ -118,24 +130,6 @@ impl Cutter {
         Ok(true)
     }
 
-    #[tactic(auto, using(crate::proofs::Widths::width_push))]
-    // Takes a byte of ASCII that only lengthens the open token, and says whether it did.
-    fn lengthen(&mut self, byte: u8) -> Result<bool, AllocError>
-        ensures items { IfOk result (λ taken. taken ≡ true → (more : List ℕ) → spec.items_of self.new more ≡ spec.items_of self.old (byte ∷ more)) }
-        ensures place { IfOk result (λ taken. taken ≡ true → self.new.at + width self.new.chars ≡ self.old.at + width self.old.chars + 1) }
-        ensures ascii { IfOk result (λ taken. taken ≡ true → byte < 128) }
-        ensures still { IfOk result (λ taken. taken ≡ false → self.new ≡ self.old) }
-    {
-        let c = char::from(byte);
-        if byte < 128 && self.reading.count == self.kept.len() && self.reading.lengthens(c) {
-            self.kept.push(c)?;
-            self.reading.count += 1;
-            self.reading.width += 1;
-            return Ok(true);
-        }
-        Ok(false)
-    }
-
     /// Takes those of the first bytes that are ASCII and only lengthen the IRI or the string that is open, and says how
     /// many these are.
     pub fn take_run(&mut self, bytes: &[u8]) -> Result<usize, AllocError>
@@ -144,13 +138,13 @@ impl Cutter {
         ensures items { IfOk result (λ n. (more : List ℕ) → spec.items_of self.new more ≡ spec.items_of self.old (take n bytes.now ++ more)) }
         ensures place { IfOk result (λ n. self.new.at + width self.new.chars ≡ self.old.at + width self.old.chars + n) }
     {
-        let mut count = 0;
-        for byte in bytes {
-            if !self.lengthen(*byte)? {
-                return Ok(count);
-            }
-            count += 1;
+        if self.reading.count != self.kept.len() {
+            return Ok(0);
         }
+        let count = self.reading.run_length(bytes);
+        keep(&mut self.kept, &bytes[..count])?;
+        self.reading.count = self.kept.len();
+        self.reading.width += count as u64;
         Ok(count)
     }
 

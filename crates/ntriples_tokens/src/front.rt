@@ -1,11 +1,12 @@
 // The token at the front of a text, a character at a time.
-ghost use Rattle.std.specs.Prelude.{◌≡◌, ℕ, ◌+◌, ◌<◌, ◌≤◌, ◌^◌, ◌++◌, List, [], ◌∷◌, length, true};
+ghost use Rattle.std.specs.Prelude.{◌≡◌, ℕ, ◌+◌, ◌<◌, ◌≤◌, ◌^◌, ◌++◌, List, [], ◌∷◌, length, take, true};
+ghost use Rattle.std.specs.Str.{IsAscii};
 ghost use Rattle.text_patterns.specs.Machines.{last_after};
 ghost use Rattle.ntriples_tokens.specs.Fronts as spec;
 ghost use Rattle.ntriples_tokens.specs.Widths as widths;
 
 use crate::Kind;
-use crate::classes::class_of;
+use crate::classes::{ascii_class, class_of};
 use crate::states::State;
 
 /// What stands at the front of a text.
@@ -89,12 +90,24 @@ impl Reading {
         })
     }
 
-    /// Whether one more character only lengthens the token: then `step` changes the count and the width alone.
-    pub(crate) fn lengthens(&self, c: char) -> bool
-        ensures step { result ≡ true → spec.step self.now c ≡ Stepped.On (spec.lengthened self.now c) }
-        ensures narrow { result ≡ true → self.now.width < 65533 }
+    /// How many of the first bytes are ASCII and only lengthen the token: each changes the count and the width alone.
+    pub(crate) fn run_length(&self, bytes: &[u8]) -> usize
+        requires { self.now.width ≤ 65536 }
+        ensures within { result ≤ length bytes.now }
+        ensures ascii { IsAscii (take result bytes.now) }
+        ensures narrow { self.now.width + result ≤ 65536 }
+        ensures runs { (more : List ℕ) → spec.read_from self.now (take result bytes.now ++ more) ≡ spec.read_from (spec.run_on self.now result) more }
     {
-        self.width < 65_533 && self.state.lengthens(class_of(c))
+        let room = 65_533u64.saturating_sub(self.width) as usize;
+        let front = &bytes[..room.min(bytes.len())];
+        let mut count = 0;
+        for byte in front {
+            if *byte >= 128 || !self.state.lengthens(ascii_class(*byte)) {
+                return count;
+            }
+            count += 1;
+        }
+        count
     }
 
     /// The reading behind one more character.

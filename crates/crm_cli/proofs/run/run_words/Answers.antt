@@ -1,10 +1,24 @@
 use Rattle.std.proofs.Common.{◌∙◌, sym, subst}
 use Rattle.std.specs.Prelude.{map, string_bytes}
-use Rattle.crm_cli.specs.Words.{IsSound}
+use Rattle.crm_cli.specs.Outcomes.{Faulted}
+use Rattle.crm_cli.specs.Report.{report}
+use Rattle.crm_cli.specs.Words.{IsSound, command_of}
 use Rattle.crm_cli.proofs.Bases.{command_sound}
+use Rattle.crm_core.specs.declared.status.Status.TheVariants.{Memory}
 use Rattle.crm_outside.specs.Causes.{Rose}
-use Rattle.crm_cli.proofs.Endings.{no_command, no_command_honest}
+use Rattle.crm_cli.proofs.Endings.{no_command, no_command_honest, starved_told, starved_told_or}
 use Rattle.crm_cli.proofs.run.run_words.Goals as goal
+
+pub returns-in_default-clause-report : goal.returns-in_default-clause-report
+returns-in_default-clause-report g c =
+    starved_told_or g.W.Sink.written g.W.Sink.faults g.W.Sink.sure c.args.out.now (report (map string_bytes c.args.words.now))
+    (Faulted g.W.Sink.written g.W.Sink.faults g.W.Sink.sure c.args.out.now c.args.out.now (Rose (g.S.Shelf.faults c.args.shelf.now) (g.S.Shelf.faults c.args.shelf.now))
+    (command_of (map string_bytes c.args.words.now)) Memory)
+    (g.S.Shelf.files c.args.shelf.now)
+
+pub returns-in_default-clause-honest : goal.returns-in_default-clause-honest
+returns-in_default-clause-honest g c = λ _.
+    starved_told g.W.Sink.written g.W.Sink.faults g.W.Sink.sure c.args.out.now (report (map string_bytes c.args.words.now)) (g.S.Shelf.files c.args.shelf.now)
 
 pub returns-clause-report : goal.returns-clause-report
 returns-clause-report g c =

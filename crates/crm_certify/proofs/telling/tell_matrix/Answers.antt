@@ -1,0 +1,8 @@
+use Rattle.crm_certify.proofs.Limited.{starved_some}
+use Rattle.crm_certify.proofs.telling.tell_matrix.Goals as goal
+
+pub returns-in_default : goal.returns-in_default
+returns-in_default g c = starved_some g.W.Sink.written g.W.Sink.faults g.W.Sink.sure c.args.out.now
+
+pub returns-in_default-walks_of : goal.returns-in_default-walks_of
+returns-in_default-walks_of g c = starved_some g.W.Sink.written g.W.Sink.faults g.W.Sink.sure c.args.out.now

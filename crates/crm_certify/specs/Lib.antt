@@ -1,0 +1,4 @@
+pub mod Lengths
+pub mod Certificates
+pub mod Verdicts
+pub mod MatrixStages

@@ -1,0 +1,73 @@
+-- What is printed of a judgement, and with which status.
+use Rattle.std.specs.Prelude.{◌≡◌, ◌⊎◌, ℕ, List, ◌++◌, codes, Option, None, Some, Result}
+use Rattle.std.specs.Fmt.{decimal}
+use Rattle.certificate_checker.specs.declared.verdicts.Verdict.{Verdict}
+use Rattle.certificate_checker.specs.declared.verdicts.Verdict.TheVariants.{Consistent, Inconsistent, Classes, Matrix}
+use Rattle.crm_core.specs.declared.status.Status.{Status}
+use Rattle.crm_core.specs.declared.status.Status.TheVariants.{Done, Findings as HasFindings, Refused}
+use Rattle.rdf_terms.specs.declared.triples.Records.{Records}
+use Rattle.rdf_chars.specs.Utf8.{IsUtf8Length}
+use Rattle.order_core.specs.Sets.{Orders}
+use Rattle.crm_outside.specs.declared.printing.PrintFault.{PrintFault}
+use Rattle.certificate_reader.specs.declared.refusals.CertRefusal.{CertRefusal}
+use Rattle.certificate_reader.specs.declared.refusals.CertRefusal.TheVariants.{K1, K2, K3, K4, K5, K6, Memory}
+use Rattle.certificate_checker.specs.declared.class_judge.TypeRow.{TypeRow}
+use Rattle.certificate_checker.specs.Verified.{IsVerified}
+use Rattle.crm_core.specs.declared.status.ReportFault.{ReportFault}
+use Rattle.crm_core.specs.Reports.{Report, Tells, Writes, findings_from, within_limits}
+
+abbrev pub verdict_text : Verdict → List ℕ
+verdict_text Consistent = codes "verified consistent\n"
+verdict_text Inconsistent = codes "verified inconsistent\n"
+verdict_text Classes = codes "verified classes\n"
+verdict_text Matrix = codes "verified matrix\n"
+
+-- only a cycle is a finding
+abbrev pub verdict_status : Verdict → Status
+verdict_status Consistent = Done
+verdict_status Inconsistent = HasFindings
+verdict_status Classes = Done
+verdict_status Matrix = Done
+
+abbrev pub verdict_report : Verdict → Report
+verdict_report v = record { status = verdict_status v; text = verdict_text v }
+
+-- the refusal of a certificate
+abbrev pub refused_at : List ℕ → ℕ → Report
+refused_at code at = record { status = Refused; text = codes "refused certificate " ++ (code ++ (codes " at " ++ (decimal at ++ codes "\n"))) }
+
+-- by the code and the place of its first fault; want of memory is none
+abbrev pub refusal_report : CertRefusal → Option Report
+refusal_report (K1 at) = Some (refused_at (codes "K1") at)
+refusal_report (K2 at) = Some (refused_at (codes "K2") at)
+refusal_report (K3 at) = Some (refused_at (codes "K3") at)
+refusal_report (K4 at) = Some (refused_at (codes "K4") at)
+refusal_report (K5 at) = Some (refused_at (codes "K5") at)
+refusal_report (K6 at) = Some (refused_at (codes "K6") at)
+refusal_report Memory = None
+
+-- the records bear out what the verdict claims
+abbrev pub IsBorneOut : Orders → List ℕ → List ℕ → Verdict → Type 0
+IsBorneOut g periods cert v = (types : List TypeRow) × ((due : List ℕ) × IsVerified g periods types due cert v)
+
+-- the place from which the text is no UTF-8, a verdict that the records bear out, or a code and a place
+abbrev pub IsJudgement : Orders → List ℕ → List ℕ → Report → Type 0
+IsJudgement g periods cert r =
+    ((at : ℕ) × (IsUtf8Length cert at × (r ≡ refused_at (codes "U1") at)))
+    ⊎ (((v : Verdict) × ((r ≡ verdict_report v) × IsBorneOut g periods cert v))
+    ⊎ ((f : CertRefusal) × (refusal_report f ≡ Some r)))
+
+module _ {S : Type 0} (written : S → Option (List ℕ)) (faults sure : S → ℕ) (old new : S) where
+  abbrev pub TellsJudged : Orders → List ℕ → List ℕ → Result Status PrintFault → Type 0
+  TellsJudged g periods cert result = (r : Report) × (IsJudgement g periods cert r × Tells written faults sure old new r result)
+
+  -- within the limits of the counts of extents, dates and orders
+  abbrev pub TellsVerdict : Records → List ℕ → Result Status PrintFault → Type 0
+  TellsVerdict records cert result =
+      (r : Report) × (IsJudgement (findings_from records).orders (findings_from records).periods cert r
+      × Tells written faults sure old new (within_limits (findings_from records) r) result)
+
+  abbrev pub WritesVerdict : Records → List ℕ → Result Status ReportFault → Type 0
+  WritesVerdict records cert result =
+      (r : Report) × (IsJudgement (findings_from records).orders (findings_from records).periods cert r
+      × Writes written faults sure old new (within_limits (findings_from records) r) result)

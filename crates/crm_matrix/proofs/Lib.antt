@@ -1,0 +1,4 @@
+mod Appended
+mod SampleFiles
+mod Matrices
+mod MatrixLevels

@@ -1,0 +1,2 @@
+pub mod MatrixTexts
+pub mod Samples
