@@ -34,3 +34,17 @@ read_more nodes t start at list a l e =
 pub read_all : (nodes : List Node) (start : ℕ) (at : ℕ) (list : List ℕ) → at ≡ 0 → chain_of nodes start ≡ chain_of nodes at ++ reverse list → reverse list ≡ chain_of nodes start
 read_all nodes start at list z e =
     let P : ℕ → Type 0 = λ k. chain_of nodes start ≡ chain_of nodes k ++ reverse list in sym (subst P z e)
+
+-- the last step, as it is read from the nodes
+pub last_one : (nodes read : List Node) → HasParents read → read ≡ nodes → (i : ℕ) (n : Node) → 0 < i → i < length nodes → node_at read i ≡ n →
+    chain_of nodes i ≡ chain_of nodes n.parent ++ n.order ∷ []
+last_one nodes read t e i n some within is =
+    let P : List Node → Type 0 = λ l. HasParents l → chain_of nodes i ≡ chain_of nodes (node_at l i).parent ++ (node_at l i).order ∷ [] in
+    let Q : Node → Type 0 = λ z. chain_of nodes i ≡ chain_of nodes z.parent ++ z.order ∷ [] in
+    subst Q is (subst P (sym e) (λ h. chain_step nodes h i some within) t)
+
+pub last_earlier : (nodes read : List Node) → HasParents read → read ≡ nodes → (i : ℕ) (n : Node) → 0 < i → i < length nodes → node_at read i ≡ n → n.parent < i
+last_earlier nodes read t e i n some within is =
+    let P : List Node → Type 0 = λ l. i < length l in
+    let Q : Node → Type 0 = λ z. z.parent < i in
+    subst Q is (t.earlier i some (subst P (sym e) within))

@@ -1,3 +1,4 @@
 pub mod Tree
 pub mod Counts
 pub mod Routes
+pub mod Ends

@@ -6,4 +6,4 @@ mod routes;
 mod tests;
 mod tree;
 
-pub use routes::{Chain, Routes, cycle};
+pub use routes::{Chain, LastStep, Routes, cycle};

@@ -1,5 +1,5 @@
 // Routes from a source, the first chains that they hold, and the first cycle.
-ghost use Rattle.std.specs.Prelude.{◌≡◌, ℕ, ◌+◌, ◌*◌, ◌<◌, ◌≤◌, length, List, true, slice_index_or, IfOk, IfSome, IfNone};
+ghost use Rattle.std.specs.Prelude.{◌≡◌, ℕ, ◌+◌, ◌*◌, ◌<◌, ◌≤◌, ◌++◌, ◌∷◌, [], length, List, true, slice_index_or, IfOk, IfSome, IfNone};
 ghost use Rattle.order_laws.specs.declared.Point.{Point};
 ghost use Rattle.order_laws.specs.Chains.{IsChain, shows_strict, HasCycle};
 ghost use Rattle.order_laws.specs.ChainSearch.{first_chain, first_cycle};
@@ -10,6 +10,8 @@ ghost use Rattle.order_core.specs.Sets.{Orders};
 ghost use Rattle.order_closure.specs.Closures.{IsClosureOf};
 ghost use Rattle.order_closure.specs.Edges.{IsEdgesOf};
 ghost use Rattle.chain_certificate.specs.Routes.{points_of, IsRoutesOf, IsPicked};
+ghost use Rattle.chain_certificate.specs.Tree.{node_at, chain_of};
+ghost use Rattle.chain_certificate.specs.Ends.{chain_at};
 
 use crate::tree::{Node, read_chain, search};
 use crm_outside::Items;
@@ -43,6 +45,13 @@ impl Model for Routes {
     ghost view = { λ r. record { extents = r.extents; dates = r.dates; nodes = r.nodes.items; node_of = r.node_of.items } };
 
     ghost invariant = { λ r. (r.extents ≤ 2 ^ 20) × (r.dates ≤ 2 ^ 20) × IsReadable (2 * r.extents + r.dates) r.nodes.items r.node_of.items };
+}
+
+/// The last order of a chain, and the node at which the chain before it ends: 0 where it is the only order.
+#[derive(Clone, Copy)]
+pub struct LastStep {
+    pub before: u32,
+    pub order: u32,
 }
 
 // Of the nodes of a target's plain and strict pair: the strict one where `strict` is set, else the lesser.
@@ -136,7 +145,7 @@ impl Routes {
         ensures computed { IfOk result (λ o. (set : Orders) (source : Point) → IsRoutesOf set source self.now →
             o ≡ first_chain set.list source target strict) }
     {
-        let node = self.node(target, strict);
+        let node = self.end(target, strict);
         if node == 0 {
             return Ok(None);
         }
@@ -144,7 +153,42 @@ impl Routes {
         Ok(Some(Chain::from_vec(orders)))
     }
 
-    // The node at which the first chain to the target ends, or 0.
+    /// The node at which the first chain to the target ends, of those that show `<` where `strict` is set;
+    /// 0 where there is no such chain.
+    pub fn end(&self, target: Point, strict: bool) -> u32
+        requires { IsPoint self.now.extents self.now.dates target }
+        ensures within { result < length self.now.nodes }
+        ensures chain { (set : Orders) (source : Point) → IsRoutesOf set source self.now →
+            first_chain set.list source target strict ≡ chain_at self.now.nodes result }
+    {
+        self.node(target, strict)
+    }
+
+    /// The last step of the chain that ends at a node. Chains that begin alike pass the same nodes, so what is
+    /// known of a node serves all chains through it.
+    pub fn last_step(&self, node: u32) -> LastStep
+        requires some { 0 < node }
+        requires within { node < length self.now.nodes }
+        ensures before { result.before ≡ (node_at self.now.nodes node).parent }
+        ensures order { result.order ≡ (node_at self.now.nodes node).order }
+        ensures earlier { result.before < node }
+        ensures chain { chain_of self.now.nodes node ≡ chain_of self.now.nodes result.before ++ result.order ∷ [] }
+    {
+        let last = self.nodes[node as usize];
+        LastStep {
+            before: last.parent,
+            order: last.order,
+        }
+    }
+
+    /// How many nodes the tree of the search has.
+    pub fn node_count(&self) -> usize
+        ensures { result ≡ length self.now.nodes }
+    {
+        self.nodes.len()
+    }
+
+    // Of the nodes of the target's two pairs, the one at which the first chain ends, or 0.
     fn node(&self, target: Point, strict: bool) -> u32
         requires { IsPoint self.now.extents self.now.dates target }
         ensures within { result < length self.now.nodes }

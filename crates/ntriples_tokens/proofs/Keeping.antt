@@ -91,9 +91,6 @@ ascii_width c h = let t : nat_lt c 128 ≡ true = grind (arith, nat_tests, h) in
 abbrev at_once : Reading → List ℕ → ℕ → ℕ → Front
 at_once r more k w = read_from (record r { count = k; width = w }) more
 
-pub run_none : (r : Reading) (more : List ℕ) → read_from r more ≡ read_from (run_on r 0) more
-run_none r more = ap₂ (at_once r more) (let e : r.count ≡ r.count + 0 = omega arith in e) (let e : r.width ≡ r.width + 0 = omega arith in e)
-
 -- a run goes on with an ASCII character that leaves the state as it is
 pub run_one : (r : Reading) (n c : ℕ) (more : List ℕ) → r.width + n < 65533 → c < 128 → next r.state (class_at c) ≡ Some r.state → accepts r.state ≡ None
     → read_from (run_on r n) (c ∷ more) ≡ read_from (run_on r (n + 1)) more

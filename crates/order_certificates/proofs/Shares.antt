@@ -4,7 +4,7 @@ use Rattle.std.proofs.lemmas.List.Sums.{fold_more}
 use Rattle.order_certificates.specs.declared.sharing.Part.{Part}
 use Rattle.order_certificates.specs.Sharing.{LetSteps, Shared, joined, shared_behind, with_step, kept_part, new_line, step_of}
 
-step_shared : (s : Shared) (lets next : LetSteps) (p kept : Part) (line longer old : List ℕ) (n : ℕ) (t : Shared) → t ≡ joined s n
+pub step_shared : (s : Shared) (lets next : LetSteps) (p kept : Part) (line longer old : List ℕ) (n : ℕ) (t : Shared) → t ≡ joined s n
     → p ≡ s.proof → lets ≡ s.lets → line ≡ old ++ s.text
     → kept ≡ kept_part lets (step_of p n) → next ≡ with_step lets (step_of p n) → longer ≡ line ++ new_line lets (step_of p n)
     → (kept ≡ t.proof) × (next ≡ t.lets) × (longer ≡ old ++ t.text)

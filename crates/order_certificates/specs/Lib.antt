@@ -1,4 +1,5 @@
 pub mod Sharing
+pub mod Keeping
 pub mod OrderCertificates
 pub mod Stages
 pub mod Cycles

@@ -3,11 +3,11 @@ use Rattle.std.specs.Prelude.{ℕ, ◌+◌, ◌<◌, ◌^◌, ◌≡◌, ⊤, Li
 use Rattle.std.specs.List.{flat_map}
 use Rattle.order_laws.specs.declared.Point.TheVariants.{Start, End}
 use Rattle.order_core.specs.Sets.{Orders}
-use Rattle.chain_certificate.specs.Routes.{IsRoutesOf}
 use Rattle.order_certificates.specs.declared.orders.Stage.{Stage}
 use Rattle.order_certificates.specs.declared.orders.Stage.TheVariants.{Head, Plain, Delays, Rows, Pairs, Over}
 use Rattle.order_certificates.specs.declared.pairs.Row.{Row}
 use Rattle.order_certificates.specs.Sharing.{LetSteps, no_lets}
+use Rattle.order_certificates.specs.Keeping.{IsSharing}
 use Rattle.order_certificates.specs.OrderCertificates.{consistent_text, placed_text, delay_places, row_lines, row_lets, rows_lines}
 
 abbrev pub rows_from : Orders → List ℕ → ℕ → LetSteps → List ℕ
@@ -27,11 +27,11 @@ text_left set periods lets (Pairs r) = row_from set periods r lets
 text_left set periods lets Over = []
 
 -- the routes of a row lead from the boundaries of its period
-pub record IsRowOf (set : Orders) (r : Row) : Type 0 where
+pub record IsRowOf (set : Orders) (lets : LetSteps) (r : Row) : Type 0 where
   pub within : r.period < set.extents
   pub few : r.place < 2 ^ 20
-  pub start : IsRoutesOf set (Start r.period) r.from_start
-  pub end : IsRoutesOf set (End r.period) r.from_end
+  pub start : IsSharing set (Start r.period) lets r.from_start
+  pub end : IsSharing set (End r.period) lets r.from_end
 
 -- before the first row there are no lines
 abbrev pub IsStageOf : Orders → LetSteps → Stage → Type 0
@@ -39,5 +39,5 @@ IsStageOf set lets Head = lets ≡ no_lets
 IsStageOf set lets Plain = lets ≡ no_lets
 IsStageOf set lets (Delays i) = lets ≡ no_lets
 IsStageOf set lets (Rows i) = ⊤
-IsStageOf set lets (Pairs r) = IsRowOf set r
+IsStageOf set lets (Pairs r) = IsRowOf set lets r
 IsStageOf set lets Over = ⊤

@@ -10,6 +10,7 @@ mod names;
 mod orders;
 mod pairs;
 mod pieces;
+mod shared_routes;
 mod sharing;
 
 pub use balanced::append_balanced;

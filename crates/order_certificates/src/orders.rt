@@ -2,15 +2,15 @@
 ghost use Rattle.std.specs.Prelude.{◌≡◌, ◌++◌, ◌<◌, ◌≤◌, ◌^◌, OnOk, IfOk, length, false};
 ghost use Rattle.order_laws.specs.Tables.{IsPoint};
 ghost use Rattle.order_certificates.specs.OrderCertificates as spec;
-ghost use Rattle.order_certificates.specs.Sharing.{no_lets};
+ghost use Rattle.order_certificates.specs.Sharing.{LetSteps, no_lets};
 ghost use Rattle.order_certificates.specs.Stages.{IsRowOf, IsStageOf, text_left, rows_from, row_from};
 
 use crate::basis::Basis;
 use crate::lines::append_place;
 use crate::pairs::{Row, append_pair};
 use crate::pieces::Pieces;
+use crate::shared_routes::build_shared;
 use crate::sharing::Lets;
-use chain_certificate::Routes;
 use order_core::Point;
 use placing_witness::Placings;
 use std::alloc::{AllocError, Global};
@@ -69,14 +69,13 @@ fn append_delays(
 fn row_of(basis: &Basis, place: usize, a: u32) -> Result<Row, AllocError>
     requires within { a < basis.now.set.extents }
     requires few { place < 2 ^ 20 }
-    ensures row { IfOk result (λ r. IsRowOf basis.now.set r) }
+    ensures row { IfOk result (λ r. (lets : LetSteps) → IsRowOf basis.now.set lets r) }
     ensures period { IfOk result (λ r. r.period ≡ a) }
     ensures place { IfOk result (λ r. r.place ≡ place) }
     ensures next { IfOk result (λ r. r.next ≡ 0) }
 {
-    let (alloc, set, edges) = (basis.alloc, basis.set, basis.edges);
-    let from_start = Routes::build_uncounted(alloc, set, edges, Point::Start(a))?;
-    let from_end = Routes::build_uncounted(alloc, set, edges, Point::End(a))?;
+    let from_start = build_shared(basis, Point::Start(a))?;
+    let from_end = build_shared(basis, Point::End(a))?;
     Ok(Row {
         period: a,
         place,
@@ -145,22 +144,20 @@ fn next_row(
 // The next pair of a row, or nothing behind all.
 fn next_pair(
     basis: &Basis,
-    row: Row,
+    mut row: Row,
     lets: &mut Lets,
     line: &mut Vec<u8>,
 ) -> Result<Stage, AllocError>
-    requires { IsRowOf basis.now.set row }
+    requires { IsRowOf basis.now.set lets.old row }
     ensures stage { IfOk result (λ s. IsStageOf basis.now.set lets.new s) }
     ensures text { IfOk result (λ s. line.new.items ++ text_left basis.now.set basis.now.periods lets.new s
         ≡ line.old.items ++ row_from basis.now.set basis.now.periods row lets.old) }
 {
     match basis.period(row.next) {
         Some(b) => {
-            append_pair(basis, &row, b, lets, line)?;
-            Ok(Stage::Pairs(Row {
-                next: row.next + 1,
-                ..row
-            }))
+            append_pair(basis, &mut row, b, lets, line)?;
+            row.next += 1;
+            Ok(Stage::Pairs(row))
         }
         None => Ok(Stage::Rows(row.place + 1)),
     }

@@ -1,20 +1,20 @@
 // The `pair` lines of a certificate of orders.
 ghost use Rattle.std.specs.Prelude.{◌≡◌, ◌++◌, ◌<◌, ◌≤◌, ◌^◌, OnOk, IfOk, length};
-ghost use Rattle.order_laws.specs.Closure.{reach_between};
-ghost use Rattle.order_laws.specs.Tables.{IsPoint, is_strict};
+ghost use Rattle.order_laws.specs.Tables.{is_strict};
 ghost use Rattle.chain_certificate.specs.Routes.{IsRoutesOf};
-ghost use Rattle.reason_report.specs.Relations.{left_point, right_point, reach_at};
-ghost use Rattle.reason_report.specs.Reason.{reason_of};
+ghost use Rattle.chain_certificate.specs.Tree.{chain_of};
+ghost use Rattle.reason_report.specs.Relations.{left_point, reach_at};
 ghost use Rattle.order_certificates.specs.OrderCertificates as spec;
 ghost use Rattle.order_certificates.specs.Sharing.{chain_part, chain_lets, chain_lines};
+ghost use Rattle.order_certificates.specs.Keeping.{IsSharing};
 ghost use Rattle.order_certificates.specs.Stages.{IsRowOf};
 
 use crate::basis::Basis;
 use crate::names::append_name;
+use crate::shared_routes::{SharedRoutes, share_node};
 use crate::sharing::{Lets, Part, append_part};
-use chain_certificate::{Chain, Routes};
+use chain_certificate::Routes;
 use order_closure::Reach;
-use order_core::{OrderSet, Point};
 use reason_report::Side;
 use std::alloc::{AllocError, Global};
 
@@ -25,8 +25,8 @@ pub(crate) struct Row {
     pub period: u32,
     pub place: usize,
     pub next: usize,
-    pub from_start: Routes,
-    pub from_end: Routes,
+    pub from_start: SharedRoutes,
+    pub from_end: SharedRoutes,
 }
 
 fn side_name(side: Side) -> &'static [u8]
@@ -114,59 +114,58 @@ fn append_at_or_before(
     Ok(())
 }
 
-/// The chain of what follows from the source of the routes to a target, one that shows `<` where `strict` is set; no
-/// order where nothing follows.
-pub(crate) fn reason_chain(
-    alloc: Global,
-    set: &OrderSet,
-    routes: &Routes,
-    source: Point,
-    target: Point,
-    strict: bool,
-) -> Result<Chain, AllocError>
-    requires routes { IsRoutesOf set.now source routes.now }
-    requires target { IsPoint set.now.extents (length set.now.dates) target }
-    requires strict { strict ≡ is_strict (reach_between set.now.list source target) }
-    ensures { IfOk result (λ c. c ≡ reason_of set.now.list source target) }
+// Whether the left boundary of a side is before the right one, as far as follows.
+fn is_before(basis: &Basis, a: u32, b: u32, side: Side) -> bool
+    requires left { a < basis.now.set.extents }
+    requires right { b < basis.now.set.extents }
+    ensures { result ≡ is_strict (reach_at basis.now.set.list a b side) }
 {
-    match routes.chain(alloc, target, strict)? {
-        Some(chain) => Ok(chain),
-        None => Ok(Chain::new(alloc)),
+    match basis.closure.between(side.left(a), side.right(b)) {
+        Reach::None => false,
+        Reach::Le => false,
+        Reach::Lt => true,
     }
+}
+
+// The node at which the chain of what follows on a side ends.
+fn side_end(basis: &Basis, routes: &Routes, a: u32, b: u32, side: Side) -> u32
+    requires routes { IsRoutesOf basis.now.set (left_point side a) routes.now }
+    requires left { a < basis.now.set.extents }
+    requires right { b < basis.now.set.extents }
+    ensures within { result < length routes.now.nodes }
+    ensures chain { spec.side_chain basis.now.set a b side ≡ chain_of routes.now.nodes result }
+{
+    let target = side.right(b);
+    let strict = is_before(basis, a, b, side);
+    routes.end(target, strict)
 }
 
 // The proof of what follows on a side; the lines that its chain lacks are appended.
 fn share_side(
     basis: &Basis,
-    routes: &Routes,
+    from: &mut SharedRoutes,
     a: u32,
     b: u32,
     side: Side,
-    strict: bool,
     lets: &mut Lets,
     line: &mut Vec<u8>,
 ) -> Result<Part, AllocError>
-    requires routes { IsRoutesOf basis.now.set (left_point side a) routes.now }
+    requires sharing { IsSharing basis.now.set (left_point side a) lets.old from.old }
+    requires left { a < basis.now.set.extents }
     requires right { b < basis.now.set.extents }
-    requires strict { strict ≡ is_strict (reach_at basis.now.set.list a b side) }
+    ensures sharing { OnOk result (IsSharing basis.now.set (left_point side a) lets.new from.new) }
     ensures part { IfOk result (λ p. p ≡ chain_part lets.old (spec.side_chain basis.now.set a b side)) }
     ensures lets { OnOk result (lets.new ≡ chain_lets lets.old (spec.side_chain basis.now.set a b side)) }
     ensures line { OnOk result (line.new.items ≡ line.old.items ++ chain_lines lets.old (spec.side_chain basis.now.set a b side)) }
 {
-    let chain = reason_chain(
-        basis.alloc,
-        basis.set,
-        routes,
-        side.left(a),
-        side.right(b),
-        strict,
-    )?;
-    lets.share(chain.as_slice(), line)
+    let node = side_end(basis, &from.routes, a, b, side);
+    let proof = share_node(basis.alloc, &from.routes, &mut from.parts, node, lets, line)?;
+    Ok(proof)
 }
 
 fn append_side(
     basis: &Basis,
-    routes: &Routes,
+    from: &mut SharedRoutes,
     a: u32,
     place: usize,
     b: u32,
@@ -174,23 +173,29 @@ fn append_side(
     lets: &mut Lets,
     line: &mut Vec<u8>,
 ) -> Result<(), AllocError>
-    requires routes { IsRoutesOf basis.now.set (left_point side a) routes.now }
+    requires sharing { IsSharing basis.now.set (left_point side a) lets.old from.old }
     requires left { a < basis.now.set.extents }
     requires place { place < 2 ^ 20 }
     requires right { b < basis.now.set.extents }
+    ensures sharing { OnOk result (IsSharing basis.now.set (left_point side a) lets.new from.new) }
     ensures lets { OnOk result (lets.new ≡ spec.side_lets basis.now.set lets.old a b side) }
     ensures line { OnOk result (line.new.items ≡ line.old.items ++ spec.side_lines basis.now.set place lets.old a b side) }
 {
     let delay = delay_number(place, side);
     match basis.closure.between(side.left(a), side.right(b)) {
-        Reach::None => append_open(a, b, side, delay, line),
+        Reach::None => {
+            append_open(a, b, side, delay, line)?;
+            Ok(())
+        }
         Reach::Le => {
-            let proof = share_side(basis, routes, a, b, side, false, lets, line)?;
-            append_at_or_before(a, b, side, proof, delay, line)
+            let proof = share_side(basis, from, a, b, side, lets, line)?;
+            append_at_or_before(a, b, side, proof, delay, line)?;
+            Ok(())
         }
         Reach::Lt => {
-            let proof = share_side(basis, routes, a, b, side, true, lets, line)?;
-            append_before(a, b, side, proof, line)
+            let proof = share_side(basis, from, a, b, side, lets, line)?;
+            append_before(a, b, side, proof, line)?;
+            Ok(())
         }
     }
 }
@@ -198,49 +203,29 @@ fn append_side(
 /// Appends the `pair` lines of the row's period and another, side by side, each with the `let` lines that it needs.
 pub(crate) fn append_pair(
     basis: &Basis,
-    row: &Row,
+    row: &mut Row,
     b: u32,
     lets: &mut Lets,
     line: &mut Vec<u8>,
 ) -> Result<(), AllocError>
-    requires row { IsRowOf basis.now.set row.now }
+    requires row { IsRowOf basis.now.set lets.old row.old }
     requires right { b < basis.now.set.extents }
-    ensures lets { OnOk result (lets.new ≡ spec.pair_lets basis.now.set lets.old row.now.period b) }
-    ensures line { OnOk result (line.new.items ≡ line.old.items ++ spec.pair_lines basis.now.set row.now.place lets.old row.now.period b) }
+    ensures row { OnOk result (IsRowOf basis.now.set lets.new row.new) }
+    ensures period { OnOk result (row.new.period ≡ row.old.period) }
+    ensures place { OnOk result (row.new.place ≡ row.old.place) }
+    ensures next { OnOk result (row.new.next ≡ row.old.next) }
+    ensures lets { OnOk result (lets.new ≡ spec.pair_lets basis.now.set lets.old row.old.period b) }
+    ensures line { OnOk result (line.new.items ≡ line.old.items ++ spec.pair_lines basis.now.set row.old.place lets.old row.old.period b) }
 {
     let (a, place) = (row.period, row.place);
     if a == b {
         return Ok(());
     }
-    append_side(
-        basis,
-        &row.from_start,
-        a,
-        place,
-        b,
-        Side::StartEnd,
-        lets,
-        line,
-    )?;
-    append_side(
-        basis,
-        &row.from_start,
-        a,
-        place,
-        b,
-        Side::StartStart,
-        lets,
-        line,
-    )?;
-    append_side(
-        basis,
-        &row.from_end,
-        a,
-        place,
-        b,
-        Side::EndStart,
-        lets,
-        line,
-    )?;
-    append_side(basis, &row.from_end, a, place, b, Side::EndEnd, lets, line)
+    let from = &mut row.from_start;
+    append_side(basis, from, a, place, b, Side::StartEnd, lets, line)?;
+    append_side(basis, from, a, place, b, Side::StartStart, lets, line)?;
+    let from = &mut row.from_end;
+    append_side(basis, from, a, place, b, Side::EndStart, lets, line)?;
+    append_side(basis, from, a, place, b, Side::EndEnd, lets, line)?;
+    Ok(())
 }

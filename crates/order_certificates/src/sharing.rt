@@ -92,8 +92,8 @@ impl Lets {
         Ok(())
     }
 
-    // What the line of a step keeps; the line is appended where there is none.
-    fn keep(&mut self, step: Step, line: &mut Vec<u8>) -> Result<Part, AllocError>
+    /// What the line of a step keeps; the line is appended where there is none.
+    pub fn keep(&mut self, step: Step, line: &mut Vec<u8>) -> Result<Part, AllocError>
         ensures part { IfOk result (λ p. p ≡ spec.kept_part self.old step) }
         ensures lets { OnOk result (self.new ≡ spec.with_step self.old step) }
         ensures line { OnOk result (line.new.items ≡ line.old.items ++ spec.new_line self.old step) }

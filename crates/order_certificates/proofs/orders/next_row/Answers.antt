@@ -10,3 +10,6 @@ pub returns-in_ok-extend_from_slice-in-None-clause-text : goal.returns-in_ok-ext
 returns-in_ok-extend_from_slice-in-None-clause-text c =
     rows_over c.args.basis.now.set c.args.basis.now.periods c.args.i c.args.lets.now c.args.line.now.items c.extend_from_slice.new.self.items
     c.in-None.ensures.period c.in_ok-extend_from_slice-in-None.ensures.items
+
+pub returns-in_ok-turn-in-Some-clause-stage : goal.returns-in_ok-turn-in-Some-clause-stage
+returns-in_ok-turn-in-Some-clause-stage c = c.in_ok-row-in-Some.ensures.row c.turn.new.self
