@@ -4,3 +4,6 @@ pub mod OrderSteps
 pub mod ClassSteps
 pub mod MatrixSteps
 pub mod Bodies
+pub mod Stops
+pub mod LineKinds
+pub mod Certificates

@@ -1,12 +1,12 @@
 -- What one more line leaves fits the lines.
-use Rattle.std.proofs.Common.{arith, zero, suc, ◌≡◌, ◌≢◌, ◌<◌, ◌≤◌, ◌+◌, ◌⊎◌, inl, inr, ℕ, Bool, true, false, cond, Option, Some, None, List, [], ◌∷◌, ◌++◌, length, get_or, refl, sym, ap, subst, ◌∙◌, length-append}
-use Rattle.std.specs.Prelude.{◌==◌, All, slice_index_or}
+use Rattle.std.proofs.Common.{arith, ◌≡◌, ◌≢◌, ◌<◌, ◌⊎◌, inl, inr, ℕ, Bool, true, List, [], ◌∷◌, ◌++◌, length, refl, sym, ap, subst, ◌∙◌, length-append}
+use Rattle.std.specs.Prelude.{All}
 use Rattle.std.proofs.lemmas.Bool.{cases_lt, ne_eqb}
 use Rattle.std.proofs.lemmas.List.{get_or_append_left, append_assoc, append-nil, get_or_push}
 use Rattle.order_laws.specs.declared.Point.{Point}
 use Rattle.order_laws.specs.declared.Position.{Position}
 use Rattle.order_laws.specs.Positions.{Stand}
-use Rattle.order_laws.specs.Placings.{IsSatisfied, IsConsistent, position_at}
+use Rattle.order_laws.specs.Placings.{IsSatisfied, position_at}
 use Rattle.order_laws.specs.Tables.{IsOrderSet}
 use Rattle.order_laws.proofs.Hold.{never_before_self}
 use Rattle.order_core.specs.Sets.{Orders}
@@ -19,9 +19,8 @@ use Rattle.certificate_reader.specs.declared.order_lines.OrderLine.{OrderLine}
 use Rattle.certificate_reader.specs.declared.order_lines.OrderLine.TheVariants.{Place, Let, Pair, Cycle, End}
 use Rattle.certificate_checker.specs.declared.cursor.Cursor.{Cursor}
 use Rattle.certificate_checker.specs.declared.order_theory.OrderFact.{OrderFact}
-use Rattle.certificate_checker.specs.Orders.{IsTrueOrder}
-use Rattle.certificate_checker.specs.Questions.{left_point, right_point, asks, questions, questions_of, questions_from, questions_among, questions_left, sides_from}
-use Rattle.certificate_checker.specs.OrderClaims.{placings_in, questions_in, placing_at, HasBefore, HasAfter, IsAlwaysSo, IsClaimTrue, Stands, IsAmong, AreTrue, IsRefuted, IsTrueFact, IsJudged, IsNext}
+use Rattle.certificate_checker.specs.Questions.{asks, questions, questions_of, questions_from, questions_among, questions_left}
+use Rattle.certificate_checker.specs.OrderClaims.{placings_in, questions_in, placing_at, HasBefore, HasAfter, IsClaimTrue, Stands, IsAmong, AreTrue, IsRefuted, IsTrueFact, IsJudged}
 
 pub placings_append : (xs ys : List OrderLine) → placings_in (xs ++ ys) ≡ placings_in xs ++ placings_in ys
 placings_append [] ys = refl

@@ -1,9 +1,10 @@
 // The judgement of a certificate of a matrix.
-ghost use Rattle.std.specs.Prelude.{◌≡◌, ◌<◌, ◌≤◌, ◌^◌, ◌+◌, IfOk, OnOk, drop, length};
+ghost use Rattle.std.specs.Prelude.{◌≡◌, ◌<◌, ◌≤◌, ◌^◌, ◌+◌, IfOk, IfErr, OnOk, ℕ, drop, length};
 ghost use Rattle.proof_core.specs.Proofs.{node_count};
 ghost use Rattle.certificate_reader.specs.MatrixTexts.{matrix_line_nodes, HasExtents};
 ghost use Rattle.certificate_checker.specs.MatrixClaims.{AreCovers, EndsBefore, IsMatrixTrue};
 ghost use Rattle.certificate_checker.specs.Verified.{IsMatrixShown};
+ghost use Rattle.certificate_checker.specs.Texts.{Body, CellLine, IsAccepted, IsOfLine, IsRefusedAs};
 
 use crate::trees::{check_names, concluded, ended, misfit};
 use crate::{
@@ -22,7 +23,8 @@ fn check_cover(
     notes: &Notes,
 ) -> Result<(), CertRefusal>
     requires { node_count proof.now < 2 ^ 32 }
-    ensures { OnOk result (EndsBefore orders.now cover) }
+    ensures cover { OnOk result (EndsBefore orders.now cover) }
+    ensures refused { IfErr result (λ e. (at : ℕ) → IsOfLine at e) }
 {
     orders.conditions();
     let theory = Shared::new(alloc, OrderTheory { orders });
@@ -47,7 +49,8 @@ fn check_walk(
 ) -> Result<(), CertRefusal>
     requires small { node_count proof.now < 2 ^ 32 }
     requires covers { AreCovers orders.now covers.now }
-    ensures { OnOk result (EndsBefore orders.now walk) }
+    ensures walk { OnOk result (EndsBefore orders.now walk) }
+    ensures refused { IfErr result (λ e. (at : ℕ) → IsOfLine at e) }
 {
     orders.conditions();
     let theory = MatrixTheory { orders, covers };
@@ -78,6 +81,7 @@ fn take(
     ensures covers { OnOk result (AreCovers orders.now covers.new) }
     ensures count { OnOk result (length covers.new ≤ length covers.old + 1) }
     ensures line { OnOk result (IsMatrixTrue orders.now line.now) }
+    ensures refused { IfErr result (λ e. (at : ℕ) → IsOfLine at e) }
 {
     match line {
         MatrixLine::Cover(cover, proof) => {
@@ -99,7 +103,9 @@ pub(crate) fn judge_matrix(
 ) -> Result<Verdict, CertRefusal>
     requires within { from ≤ length text.now }
     requires short { length text.now < 2 ^ 32 }
-    ensures { IfOk result (λ v. (v ≡ Verdict.Matrix) × IsMatrixShown orders.now (drop from text.now)) }
+    ensures shown { IfOk result (λ v. (v ≡ Verdict.Matrix) × IsMatrixShown orders.now (drop from text.now)) }
+    ensures accepted { OnOk result (IsAccepted (Body CellLine) 64 text.now from) }
+    ensures refused { IfErr result (λ e. IsRefusedAs (Body CellLine) 64 text.now from e) }
 {
     let mut covers = Covers::new(alloc);
     let mut walked = false;

@@ -1,5 +1,5 @@
 // The judgement of a certificate of orders, line by line.
-ghost use Rattle.std.specs.Prelude.{◌≡◌, ◌<◌, ◌≤◌, ◌+◌, ◌-◌, ◌*◌, ◌^◌, ◌++◌, ◌∷◌, ◌↔◌, [], List, ℤ, true, false, drop, IfOk, OnOk, IfSome, All, length, vec_len, slice_get};
+ghost use Rattle.std.specs.Prelude.{◌≡◌, ◌<◌, ◌≤◌, ◌+◌, ◌-◌, ◌*◌, ◌^◌, ◌++◌, ◌∷◌, ◌↔◌, [], List, ℤ, true, false, cond, drop, IfOk, IfErr, OnOk, IfSome, Some, None, All, ℕ, length, vec_len, slice_get};
 ghost use Rattle.order_laws.specs.Placings.{IsSatisfied, position_at};
 ghost use Rattle.order_laws.specs.Positions.{IsBefore};
 ghost use Rattle.proof_core.specs.Proofs.{node_count};
@@ -8,6 +8,7 @@ ghost use Rattle.certificate_reader.specs.OrderTexts.{claim_nodes, order_line_no
 ghost use Rattle.certificate_checker.specs.Questions.{left_point, right_point, questions, questions_left, IsSettled};
 ghost use Rattle.certificate_checker.specs.OrderClaims.{fact_of, placing_at, IsOfSet, IsTrueFact, IsClaimTrue, IsJudged, IsLast, IsNext, IsRefuted};
 ghost use Rattle.certificate_checker.specs.Verified.{verdict_of, IsOrdersShown};
+ghost use Rattle.certificate_checker.specs.Texts.{Body, ClaimLine, IsAccepted, IsOfLine, IsRefusedAs};
 
 use crate::cursor::Cursor;
 use crate::trees::{bad_node, check_names, concluded, ended, misfit};
@@ -108,7 +109,7 @@ impl<'a> OrderJudge<'a> {
 
     fn known(&self, orders: &OrderSet, shares: bool) -> Known
         requires { vec_len self.now.placings < 2 ^ 32 }
-        ensures { IfSome result.leaves.kept (λ n. n ≡ self.now.kept) }
+        ensures { result.leaves.kept ≡ cond shares (Some self.now.kept) None }
     {
         Known {
             leaves: OrderLeaves {
@@ -153,8 +154,9 @@ impl<'a> OrderJudge<'a> {
         notes: &Notes,
     ) -> Result<(), CertRefusal>
         requires { node_count proof.now < 2 ^ 32 }
-        ensures { OnOk result (All (IsTrueFact self.now.shared.theory.orders.now) self.now.shared.kept →
+        ensures fact { OnOk result (All (IsTrueFact self.now.shared.theory.orders.now) self.now.shared.kept →
             IsTrueFact self.now.shared.theory.orders.now (fact_of question strict)) }
+        ensures refused { IfErr result (λ e. (at : ℕ) → IsOfLine at e) }
     {
         let asked = OrderFact {
             low: left(question),
@@ -185,8 +187,9 @@ impl<'a> OrderJudge<'a> {
         notes: &Notes,
     ) -> Result<(), CertRefusal>
         requires { claim_nodes claim.now < 2 ^ 32 }
-        ensures { OnOk result (All (IsTrueFact self.now.shared.theory.orders.now) self.now.shared.kept → IsOfSet self.now.shared.theory.orders.now →
+        ensures claim { OnOk result (All (IsTrueFact self.now.shared.theory.orders.now) self.now.shared.kept → IsOfSet self.now.shared.theory.orders.now →
             IsClaimTrue self.now.shared.theory.orders.now self.now.placings.items question claim.now) }
+        ensures refused { IfErr result (λ e. IsOfLine at e) }
     {
         match claim {
             Claim::Before(proof) => self.check_fact(question, true, proof, notes),
@@ -206,8 +209,9 @@ impl<'a> OrderJudge<'a> {
 
     fn check_cycle(&self, proof: &OrderProof, notes: &Notes) -> Result<(), CertRefusal>
         requires { node_count proof.now < 2 ^ 32 }
-        ensures { OnOk result (All (IsTrueFact self.now.shared.theory.orders.now) self.now.shared.kept → IsOfSet self.now.shared.theory.orders.now →
+        ensures cycle { OnOk result (All (IsTrueFact self.now.shared.theory.orders.now) self.now.shared.kept → IsOfSet self.now.shared.theory.orders.now →
             IsRefuted self.now.shared.theory.orders.now) }
+        ensures refused { IfErr result (λ e. (at : ℕ) → IsOfLine at e) }
     {
         let fact = concluded(&self.shared, proof, notes.places.as_slice())?;
         if fact.low == fact.high && fact.strict {
@@ -240,6 +244,7 @@ impl<'a> OrderJudge<'a> {
         ensures judged { (lines : List Line) →
             IsJudged orders.now periods.now self.old.shared.kept self.old.placings.items self.old.next self.old.cycled lines →
             OnOk result (IsJudged orders.now periods.now self.new.shared.kept self.new.placings.items self.new.next self.new.cycled (lines ++ line ∷ [])) }
+        ensures refused { IfErr result (λ e. IsOfLine at e) }
     {
         orders.conditions();
         match line {
@@ -296,7 +301,9 @@ pub(crate) fn judge_orders(
 ) -> Result<Verdict, CertRefusal>
     requires within { from ≤ length text.now }
     requires short { length text.now < 2 ^ 32 }
-    ensures { IfOk result (λ v. IsOrdersShown orders.now periods.now (drop from text.now) v) }
+    ensures shown { IfOk result (λ v. IsOrdersShown orders.now periods.now (drop from text.now) v) }
+    ensures accepted { OnOk result (IsAccepted (Body (ClaimLine (cond shares (Some 0) None))) 64 text.now from) }
+    ensures refused { IfErr result (λ e. IsRefusedAs (Body (ClaimLine (cond shares (Some 0) None))) 64 text.now from e) }
 {
     let mut judge = OrderJudge::new(alloc, orders, periods);
     let mut at = from;

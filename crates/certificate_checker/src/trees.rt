@@ -1,13 +1,17 @@
 // What trees conclude, and the places of what is wrong with them.
-ghost use Rattle.std.specs.Prelude.{◌≡◌, ◌<◌, ◌≤◌, ◌^◌, None, IfOk, OnOk, length};
+ghost use Rattle.std.specs.Prelude.{◌≡◌, ◌<◌, ◌≤◌, ◌^◌, None, IfOk, IfErr, OnOk, length, ℕ};
 ghost use Rattle.proof_core.specs.Proofs.{Concludes, node_count};
+ghost use Rattle.certificate_reader.specs.declared.refusals.CertRefusal.TheVariants.{K1};
+ghost use Rattle.certificate_checker.specs.Texts.{IsOfLine};
 
 use crate::{CertRefusal, Verdict};
 use certificate_reader::Notes;
 use proof_core::{BadAt, Proof, Theory, check};
 
 /// The refusal of a node, whose place stands among those of its tree.
-pub(crate) fn bad_node(places: &[usize], bad: BadAt) -> CertRefusal {
+pub(crate) fn bad_node(places: &[usize], bad: BadAt) -> CertRefusal
+    ensures { (at : ℕ) → IsOfLine at result }
+{
     match places.get(bad.node as usize) {
         Some(place) => CertRefusal::K4(*place as u64),
         None => CertRefusal::K4(0),
@@ -23,6 +27,7 @@ pub(crate) fn concluded<T: Theory>(
     requires { node_count proof.now < 2 ^ 32 }
     ensures concludes { IfOk result (λ f. Concludes (T.rules theory.now) proof.now f) }
     ensures is_true { IfOk result (λ f. T.IsTrueIn theory.now f) }
+    ensures refused { IfErr result (λ e. (at : ℕ) → IsOfLine at e) }
 {
     match check(theory, proof) {
         Ok(fact) => Ok(fact),
@@ -31,7 +36,9 @@ pub(crate) fn concluded<T: Theory>(
 }
 
 /// The refusal of a tree that concludes another fact than is asked for: at its root, which comes last.
-pub(crate) fn misfit(places: &[usize]) -> CertRefusal {
+pub(crate) fn misfit(places: &[usize]) -> CertRefusal
+    ensures { (at : ℕ) → IsOfLine at result }
+{
     match places.last() {
         Some(place) => CertRefusal::K4(*place as u64),
         None => CertRefusal::K4(0),
@@ -40,7 +47,8 @@ pub(crate) fn misfit(places: &[usize]) -> CertRefusal {
 
 /// K3 where a name was noted that nothing has.
 pub(crate) fn check_names(notes: &Notes) -> Result<(), CertRefusal>
-    ensures { OnOk result (notes.now.unknown ≡ None) }
+    ensures known { OnOk result (notes.now.unknown ≡ None) }
+    ensures refused { IfErr result (λ e. (at : ℕ) → IsOfLine at e) }
 {
     match notes.unknown {
         Some(place) => Err(CertRefusal::K3(place as u64)),
@@ -50,7 +58,8 @@ pub(crate) fn check_names(notes: &Notes) -> Result<(), CertRefusal>
 
 /// The verdict at the end of the last line, behind which nothing may stand.
 pub(crate) fn ended(text: &[u8], to: usize, verdict: Verdict) -> Result<Verdict, CertRefusal>
-    ensures { IfOk result (λ v. (v ≡ verdict) × (length text.now ≤ to)) }
+    ensures all { IfOk result (λ v. (v ≡ verdict) × (length text.now ≤ to)) }
+    ensures refused { IfErr result (λ e. (e ≡ K1 to) × (to < length text.now)) }
 {
     if to < text.len() {
         Err(CertRefusal::K1(to as u64))

@@ -1,6 +1,7 @@
 // The check of a certificate.
-ghost use Rattle.std.specs.Prelude.{◌<◌, ◌^◌, IfOk, length};
+ghost use Rattle.std.specs.Prelude.{◌<◌, ◌^◌, IfOk, IfErr, OnOk, length};
 ghost use Rattle.certificate_checker.specs.Verified.{IsVerified};
+ghost use Rattle.certificate_checker.specs.Texts.{CertificateForm, IsAccepted, IsRefusedAs};
 
 use crate::class_judge::judge_classes;
 use crate::matrix_judge::judge_matrix;
@@ -23,7 +24,9 @@ pub fn verify(
     text: &[u8],
 ) -> Result<Verdict, CertRefusal>
     requires { length text.now < 2 ^ 32 }
-    ensures { IfOk result (λ v. IsVerified orders.now periods.now types.now due.now text.now v) }
+    ensures verified { IfOk result (λ v. IsVerified orders.now periods.now types.now due.now text.now v) }
+    ensures accepted { OnOk result (IsAccepted CertificateForm 64 text.now 0) }
+    ensures refused { IfErr result (λ e. IsRefusedAs CertificateForm 64 text.now 0 e) }
 {
     let head = read_head(text)?;
     match head.value {

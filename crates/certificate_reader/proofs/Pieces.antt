@@ -1,17 +1,17 @@
 -- How the pieces between places add up.
-use Rattle.std.proofs.Common.{arith, zero, suc, ◌≡◌, ◌<◌, ◌≤◌, ◌+◌, ◌-◌, ◌*◌, ◌/◌, ◌%◌, ◌^◌, ℕ, ℤ, pos, negsuc, Some, None, List, [], ◌∷◌, ◌++◌, length, get_or, take, drop, refl, sym, ap, subst, ◌∙◌, append_assoc}
+use Rattle.std.proofs.Common.{arith, zero, suc, ◌≡◌, ◌<◌, ◌≤◌, ◌+◌, ◌-◌, ◌*◌, ◌/◌, ◌%◌, ◌^◌, ℕ, ℤ, negsuc, Some, List, [], ◌∷◌, ◌++◌, length, get_or, take, drop, refl, sym, ap, subst, ◌∙◌, append_assoc}
 use Rattle.std.specs.Prelude.{slice_get}
 use Rattle.std.specs.Fmt.{decimal, signed_decimal}
-use Rattle.std.proofs.lemmas.List.{drop_more, drop_all, take_more, take_all}
+use Rattle.std.proofs.lemmas.List.{drop_more, take_more, take_all}
 use Rattle.std.proofs.lemmas.Fmt.{decimal_digit, decimal_step_wide}
 use Rattle.certificate_reader.specs.Reads.{IsRead}
 
-item_is : {X : Type 0} (xs : List X) (n : ℕ) (x d : X) → slice_get xs n ≡ Some x → (n < length xs) × (get_or xs n d ≡ x)
+pub item_is : {X : Type 0} (xs : List X) (n : ℕ) (x d : X) → slice_get xs n ≡ Some x → (n < length xs) × (get_or xs n d ≡ x)
 item_is [] n x d e = absurd (cc e)
 item_is (y ∷ xs) zero x d e = (omega arith, cc e)
 item_is (y ∷ xs) (suc n) x d e = let rest = item_is xs n x d e in (omega (arith, rest.0), rest.1)
 
-next_is : (text : List ℕ) (at b : ℕ) → slice_get text at ≡ Some b → drop at text ≡ b ∷ drop (at + 1) text
+pub next_is : (text : List ℕ) (at b : ℕ) → slice_get text at ≡ Some b → drop at text ≡ b ∷ drop (at + 1) text
 next_is text at b e = let is = item_is text at b 0 e in drop_more text at 0 is.0 ∙ ap (λ z. z ∷ drop (at + 1) text) is.1
 
 pub within_text : (text : List ℕ) (at b : ℕ) → slice_get text at ≡ Some b → at < length text
@@ -55,7 +55,7 @@ word_more text word at k read within e =
 pub word_whole : (text word : List ℕ) (at k : ℕ) → IsRead text at (at + k) (take k word) → length word ≤ k → IsRead text at (at + k) word
 word_whole text word at k read end = let P : List ℕ → Type 0 = IsRead text at (at + k) in subst P (take_all k word end) read
 
-item_of_rest : (text : List ℕ) (at b : ℕ) (rest : List ℕ) → drop at text ≡ b ∷ rest → slice_get text at ≡ Some b
+pub item_of_rest : (text : List ℕ) (at b : ℕ) (rest : List ℕ) → drop at text ≡ b ∷ rest → slice_get text at ≡ Some b
 item_of_rest [] zero b rest e = absurd (cc e)
 item_of_rest [] (suc at) b rest e = absurd (cc e)
 item_of_rest (x ∷ xs) zero b rest e = cc e

@@ -1,8 +1,7 @@
 -- How the pieces of trees add up, and where their nodes begin.
-use Rattle.std.proofs.Common.{arith, ◌≡◌, ◌<◌, ◌≤◌, ◌+◌, ◌-◌, ℕ, Some, None, List, [], ◌∷◌, ◌++◌, length, drop, refl, sym, ap, subst, ◌∙◌, append_assoc, length-append, length-drop}
+use Rattle.std.proofs.Common.{arith, ◌≡◌, ◌+◌, ℕ, Some, List, [], ◌∷◌, ◌++◌, length, drop, ap, ◌∙◌, append_assoc, length-append, length-drop}
 use Rattle.std.specs.Prelude.{slice_get}
 use Rattle.proof_core.specs.declared.trees.Proof.{Proof}
-use Rattle.proof_core.specs.declared.trees.Proof.TheVariants.{Leaf, One', Two'}
 use Rattle.certificate_reader.specs.declared.rules.Weaken.{Weaken}
 use Rattle.certificate_reader.specs.declared.rules.Join.{Join}
 use Rattle.certificate_reader.specs.Reads.{IsRead}

@@ -4,3 +4,8 @@ pub mod ClassTexts
 pub mod OrderTexts
 pub mod MatrixTexts
 pub mod HeadTexts
+pub mod Beginnings
+pub mod Grammar
+pub mod TreeGrammar
+pub mod LineGrammar
+pub mod Unknowns

@@ -1,6 +1,8 @@
 // The lines of a certificate of classes.
-ghost use Rattle.std.specs.Prelude.{◌≡◌, ◌<◌, ◌≤◌, ◌+◌, ◌++◌, ◌∷◌, ◌↔◌, [], None, Some, IfOk, length, true};
+ghost use Rattle.std.specs.Prelude.{◌≡◌, ◌<◌, ◌≤◌, ◌+◌, ◌++◌, ◌∷◌, ◌↔◌, [], None, Some, IfOk, length, true, IfErr};
 ghost use Rattle.certificate_reader.specs.Reads.{IsRead};
+ghost use Rattle.certificate_reader.specs.Beginnings.{IsShallow, IsShallowTill, IsWhole, IsRefused};
+ghost use Rattle.certificate_reader.specs.LineGrammar.{Triples, CodePair, ClassLineForm};
 ghost use Rattle.certificate_reader.specs.ClassTexts.{triples_text, classes_text, class_line_text, class_line_nodes, IsHead, IsFamilyPair};
 
 use crate::leaves::read_code;
@@ -40,16 +42,18 @@ pub struct MarkedLine {
 }
 
 #[derive(Clone, Copy)]
-struct Triples {
+struct TriplePair {
     first: u32,
     second: u32,
     second_at: usize,
 }
 
 // Two triples by number.
-fn read_triples(text: &[u8], at: usize) -> Result<Found<Triples>, CertRefusal>
+fn read_triples(text: &[u8], at: usize) -> Result<Found<TriplePair>, CertRefusal>
     requires { at ≤ length text.now }
-    ensures { IfOk result (λ f. IsRead text.now at f.to (triples_text f.value.first f.value.second)) }
+    ensures read { IfOk result (λ f. IsRead text.now at f.to (triples_text f.value.first f.value.second)) }
+    ensures whole { IfOk result (λ f. IsWhole Triples text.now at f.to) }
+    ensures refused { IfErr result (λ e. IsRefused Triples None text.now at e) }
 {
     let begun = read_word(text, at, b"t")?;
     let first = read_number(text, begun)?;
@@ -57,7 +61,7 @@ fn read_triples(text: &[u8], at: usize) -> Result<Found<Triples>, CertRefusal>
     let between = read_word(text, second_at, b"t")?;
     let second = read_number(text, between)?;
     Ok(Found {
-        value: Triples {
+        value: TriplePair {
             first: first.value,
             second: second.value,
             second_at,
@@ -106,6 +110,8 @@ fn read_classes(text: &[u8], at: usize) -> Result<Found<Classes>, CertRefusal>
     ensures moves { IfOk result (λ f. (at ≤ f.to) × (f.to ≤ length text.now)) }
     ensures pair { IfOk result (λ f. f.value.known ≡ true → IsFamilyPair f.value.first f.value.second) }
     ensures read { IfOk result (λ f. f.value.known ≡ true → IsRead text.now at f.to (classes_text f.value.first f.value.second)) }
+    ensures whole { IfOk result (λ f. IsWhole CodePair text.now at f.to) }
+    ensures refused { IfErr result (λ e. IsRefused CodePair None text.now at e) }
 {
     let first = read_code(text, at)?;
     let between = read_word(text, first.to, b" ")?;
@@ -117,7 +123,7 @@ fn read_classes(text: &[u8], at: usize) -> Result<Found<Classes>, CertRefusal>
 }
 
 fn class_line(
-    triples: Triples,
+    triples: TriplePair,
     classes: Classes,
     first_tree: ClassProof,
     second_tree: ClassProof,
@@ -153,6 +159,10 @@ pub fn read_class_line(
     ensures moves { IfOk result (λ f. (at + class_line_nodes f.value.line < f.to) × (f.to ≤ length text.now)) }
     ensures pair { IfOk result (λ f. f.value.known ≡ true → IsFamilyPair f.value.line.first_class f.value.line.second_class) }
     ensures read { notes.new.unknown ≡ None → IfOk result (λ f. f.value.known ≡ true → IsRead text.now at f.to (class_line_text f.value.line ++ 10 ∷ [])) }
+    ensures whole { IfOk result (λ f. IsWhole ClassLineForm text.now at f.to) }
+    ensures refused { IfErr result (λ e. IsRefused ClassLineForm (Some 64) text.now at e) }
+    ensures shallow { IfOk result (λ f. IsShallow 64 text.now at f.to) }
+    ensures shallow_till { IfErr result (λ e. IsShallowTill 64 text.now at e) }
 {
     let begun = read_word(text, at, b"class ")?;
     let triples = read_triples(text, begun)?;

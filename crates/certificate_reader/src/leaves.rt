@@ -1,7 +1,11 @@
 // The leaves of trees, and what is noted where they are read.
-ghost use Rattle.std.specs.Prelude.{◌≡◌, ◌<◌, ◌≤◌, ◌∷◌, [], None, Some, IfOk, IfSome, List, ℕ, length};
+ghost use Rattle.std.specs.Prelude.{◌≡◌, ◌<◌, ◌≤◌, ◌∷◌, [], None, Some, IfOk, IfSome, List, ℕ, Bool, false, length, IfErr};
 ghost use Rattle.std.specs.Fmt.{decimal};
 ghost use Rattle.certificate_reader.specs.Reads.{IsRead};
+ghost use Rattle.certificate_reader.specs.Beginnings.{IsWhole, IsRefused};
+ghost use Rattle.certificate_reader.specs.Grammar.{Name};
+ghost use Rattle.certificate_reader.specs.Unknowns.{IsFaithful, IsSure, bad_cover, bad_shared, noted, or_else, unknown_name};
+ghost use Rattle.certificate_reader.specs.LineGrammar.{Code, LeafKind, OfOrders, OfCovers, OfClasses, LeafOf};
 ghost use Rattle.crm_classes.specs.Classes.{code_text};
 
 use crate::CertRefusal;
@@ -30,8 +34,9 @@ impl Notes {
         }
     }
 
-    // Notes that nothing has the name at this place.
+    // Notes that nothing has the name at this place, where it is the first.
     fn note_unknown(&mut self, at: usize)
+        ensures first { self.new.unknown ≡ or_else self.old.unknown (Some at) }
         ensures noted { ¬ (self.new.unknown ≡ None) }
         ensures places { self.new.places ≡ self.old.places }
     {
@@ -49,8 +54,14 @@ pub trait LeafForm: Drop {
     /// How a leaf is spelled.
     ghost text_of: { Self.Leaf → List ℕ };
 
-    /// Reads the leaf that stands here. Where it names what isn't there, this is noted, and the leaf may be
-    /// another.
+    /// What may stand as a leaf.
+    ghost kind_of: { Self → LeafKind };
+
+    /// Whether a leaf names what isn't there; said of leaves alone that are read as they are spelled.
+    ghost names_nothing: { Self → Self.Leaf → Bool };
+
+    /// Reads the leaf that stands here. Where it names what isn't there, this is noted, and a leaf of classes may
+    /// be another.
     fn read_leaf(
         &self,
         text: &[u8],
@@ -61,7 +72,10 @@ pub trait LeafForm: Drop {
         ensures sticky { notes.new.unknown ≡ None → notes.old.unknown ≡ None }
         ensures places { notes.new.places ≡ notes.old.places }
         ensures moves { IfOk result (λ f. (at < f.to) × (f.to ≤ length text.now)) }
-        ensures read { notes.new.unknown ≡ None → IfOk result (λ f. IsRead text.now at f.to (text_of f.value)) };
+        ensures read { IsSure (kind_of self.now) notes.new.unknown → IfOk result (λ f. IsRead text.now at f.to (text_of f.value)) }
+        ensures noted { IsFaithful (kind_of self.now) → IfOk result (λ f. notes.new.unknown ≡ or_else notes.old.unknown (noted (names_nothing self.now f.value) at)) }
+        ensures whole { IfOk result (λ f. IsWhole (LeafOf (kind_of self.now)) text.now at f.to) }
+        ensures refused { IfErr result (λ e. IsRefused (LeafOf (kind_of self.now)) None text.now at e) };
 }
 
 /// A letter and a number, which is the name of something where it is below the limit.
@@ -72,11 +86,15 @@ pub(crate) fn read_name(
     limit: u32,
     notes: &mut Notes,
 ) -> Result<Found<u32>, CertRefusal>
+    requires { at ≤ length text.now }
     ensures sticky { notes.new.unknown ≡ None → notes.old.unknown ≡ None }
     ensures places { notes.new.places ≡ notes.old.places }
     ensures moves { IfOk result (λ f. at < f.to) }
     ensures known { notes.new.unknown ≡ None → IfOk result (λ f. f.value < limit) }
+    ensures noted { IfOk result (λ f. notes.new.unknown ≡ or_else notes.old.unknown (unknown_name limit f.value at)) }
     ensures read { IfOk result (λ f. IsRead text.now at f.to (letter ∷ decimal f.value)) }
+    ensures whole { IfOk result (λ f. IsWhole (Name letter) text.now at f.to) }
+    ensures refused { IfErr result (λ e. IsRefused (Name letter) None text.now at e) }
 {
     if !stands_at(text, at, letter) {
         return Err(CertRefusal::K1(at as u64));
@@ -101,6 +119,10 @@ impl LeafForm for OrderLeaves {
     type Leaf = SharedLeaf<u32>;
 
     ghost text_of = { shared_leaf };
+
+    ghost kind_of = { λ f. OfOrders f.kept };
+
+    ghost names_nothing = { λ f l. bad_shared f.orders f.kept l };
 
     fn read_leaf(
         &self,
@@ -138,6 +160,10 @@ impl LeafForm for CoverLeaves {
 
     ghost text_of = { cover_leaf };
 
+    ghost kind_of = { λ f. OfCovers };
+
+    ghost names_nothing = { λ f l. bad_cover f.covers l };
+
     fn read_leaf(
         &self,
         text: &[u8],
@@ -158,8 +184,11 @@ pub struct ClassFact {
 // The text of a code that no class has is that of no class, so None says nothing of it.
 /// A class code, `E` or `A` and a number; None where no class has it.
 pub(crate) fn read_code(text: &[u8], at: usize) -> Result<Found<Option<ClassId>>, CertRefusal>
+    requires { at ≤ length text.now }
     ensures moves { IfOk result (λ f. (at < f.to) × (f.to ≤ length text.now)) }
     ensures read { IfOk result (λ f. IfSome f.value (λ c. IsRead text.now at f.to (code_text c))) }
+    ensures whole { IfOk result (λ f. IsWhole Code text.now at f.to) }
+    ensures refused { IfErr result (λ e. IsRefused Code None text.now at e) }
 {
     if !stands_at(text, at, b'E') && !stands_at(text, at, b'A') {
         return Err(CertRefusal::K1(at as u64));
@@ -172,10 +201,13 @@ pub(crate) fn read_code(text: &[u8], at: usize) -> Result<Found<Option<ClassId>>
 }
 
 fn read_class(text: &[u8], at: usize, notes: &mut Notes) -> Result<Found<ClassId>, CertRefusal>
+    requires { at ≤ length text.now }
     ensures sticky { notes.new.unknown ≡ None → notes.old.unknown ≡ None }
     ensures places { notes.new.places ≡ notes.old.places }
     ensures moves { IfOk result (λ f. (at < f.to) × (f.to ≤ length text.now)) }
     ensures read { notes.new.unknown ≡ None → IfOk result (λ f. IsRead text.now at f.to (code_text f.value)) }
+    ensures whole { IfOk result (λ f. IsWhole Code text.now at f.to) }
+    ensures refused { IfErr result (λ e. IsRefused Code None text.now at e) }
 {
     let found = read_code(text, at)?;
     let value = match found.value {
@@ -201,6 +233,10 @@ impl LeafForm for ClassLeaves {
     type Leaf = ClassFact;
 
     ghost text_of = { class_leaf_text };
+
+    ghost kind_of = { λ f. OfClasses };
+
+    ghost names_nothing = { λ f l. false };
 
     fn read_leaf(
         &self,

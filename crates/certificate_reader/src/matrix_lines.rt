@@ -1,13 +1,17 @@
 // The lines of a certificate of a matrix.
-ghost use Rattle.std.specs.Prelude.{◌≡◌, ◌<◌, ◌≤◌, ◌+◌, ◌++◌, ◌∷◌, [], None, IfOk, length};
+ghost use Rattle.std.specs.Prelude.{◌≡◌, ◌<◌, ◌≤◌, ◌+◌, ◌++◌, ◌∷◌, [], None, IfOk, length, IfErr, Some};
 ghost use Rattle.certificate_reader.specs.Reads.{IsRead};
+ghost use Rattle.certificate_reader.specs.Beginnings.{IsShallow, IsShallowTill, IsWhole, IsRefused};
+ghost use Rattle.certificate_reader.specs.LineGrammar.{Extents, CoverForm, WalkForm, MatrixForm, MatrixLineForm};
+ghost use Rattle.certificate_reader.specs.Unknowns.{or_else, unknown_cell, unknown_pair};
 ghost use Rattle.certificate_reader.specs.MatrixTexts.{extents_text, matrix_line_text, matrix_line_places, matrix_line_nodes, HasExtents};
 
 use crate::leaves::read_name;
 use crate::trees::DEPTH;
+use crate::words::stands_at;
 use crate::{
-    CertRefusal, CoverLeaves, Found, Join, Notes, OrderLeaves, OrderProof, Weaken, byte_at,
-    read_tree, read_word,
+    CertRefusal, CoverLeaves, Found, Join, Notes, OrderLeaves, OrderProof, Weaken, read_tree,
+    read_word,
 };
 use proof_core::Proof;
 use std::alloc::Global;
@@ -37,10 +41,14 @@ fn read_extents(
     extents: u32,
     notes: &mut Notes,
 ) -> Result<Found<Cover>, CertRefusal>
+    requires { at ≤ length text.now }
     ensures sticky { notes.new.unknown ≡ None → notes.old.unknown ≡ None }
     ensures places { notes.new.places ≡ notes.old.places }
     ensures known { notes.new.unknown ≡ None → IfOk result (λ f. (f.value.first < extents) × (f.value.second < extents)) }
     ensures read { IfOk result (λ f. IsRead text.now at f.to (extents_text f.value)) }
+    ensures noted { IfOk result (λ f. notes.new.unknown ≡ or_else notes.old.unknown (unknown_pair extents f.value.first f.value.second at)) }
+    ensures whole { IfOk result (λ f. IsWhole Extents text.now at f.to) }
+    ensures refused { IfErr result (λ e. IsRefused Extents None text.now at e) }
 {
     let first = read_name(text, at, b'x', extents, notes)?;
     let between = read_word(text, first.to, b" ")?;
@@ -56,22 +64,29 @@ fn read_extents(
 
 fn read_cover(
     alloc: Global,
-    orders: u32,
-    extents: u32,
+    known: &Counts,
     text: &[u8],
     at: usize,
     notes: &mut Notes,
 ) -> Result<Found<MatrixLine>, CertRefusal>
     requires { at ≤ length text.now }
     ensures moves { IfOk result (λ f. (at + matrix_line_nodes f.value ≤ f.to) × (f.to ≤ length text.now)) }
-    ensures known { notes.new.unknown ≡ None → IfOk result (λ f. HasExtents extents f.value) }
-    ensures read { notes.new.unknown ≡ None → IfOk result (λ f. IsRead text.now at f.to (matrix_line_text f.value)) }
-    ensures places { notes.new.unknown ≡ None → IfOk result (λ f. notes.new.places.items ≡ notes.old.places.items ++ matrix_line_places f.value at) }
+    ensures known { notes.new.unknown ≡ None → IfOk result (λ f. HasExtents known.now.extents f.value) }
+    ensures read { IfOk result (λ f. IsRead text.now at f.to (matrix_line_text f.value)) }
+    ensures noted { IfOk result (λ f. notes.new.unknown ≡ or_else notes.old.unknown (unknown_cell known.now f.value at)) }
+    ensures places { IfOk result (λ f. notes.new.places.items ≡ notes.old.places.items ++ matrix_line_places f.value at) }
+    ensures whole { IfOk result (λ f. IsWhole CoverForm text.now at f.to) }
+    ensures refused { IfErr result (λ e. IsRefused CoverForm (Some 64) text.now at e) }
+    ensures shallow { IfOk result (λ f. IsShallow 64 text.now at f.to) }
+    ensures shallow_till { IfErr result (λ e. IsShallowTill 64 text.now at e) }
 {
     let begun = read_word(text, at, b"cover ")?;
-    let pair = read_extents(text, begun, extents, notes)?;
+    let pair = read_extents(text, begun, known.extents, notes)?;
     let behind = read_word(text, pair.to, b" ")?;
-    let leaves = OrderLeaves { orders, kept: None };
+    let leaves = OrderLeaves {
+        orders: known.orders,
+        kept: None,
+    };
     let tree = read_tree(alloc, &leaves, text, behind, DEPTH, notes)?;
     Ok(Found {
         value: MatrixLine::Cover(pair.value, tree.value),
@@ -81,22 +96,28 @@ fn read_cover(
 
 fn read_walk(
     alloc: Global,
-    covers: u32,
-    extents: u32,
+    known: &Counts,
     text: &[u8],
     at: usize,
     notes: &mut Notes,
 ) -> Result<Found<MatrixLine>, CertRefusal>
     requires { at ≤ length text.now }
     ensures moves { IfOk result (λ f. (at + matrix_line_nodes f.value ≤ f.to) × (f.to ≤ length text.now)) }
-    ensures known { notes.new.unknown ≡ None → IfOk result (λ f. HasExtents extents f.value) }
-    ensures read { notes.new.unknown ≡ None → IfOk result (λ f. IsRead text.now at f.to (matrix_line_text f.value)) }
-    ensures places { notes.new.unknown ≡ None → IfOk result (λ f. notes.new.places.items ≡ notes.old.places.items ++ matrix_line_places f.value at) }
+    ensures known { notes.new.unknown ≡ None → IfOk result (λ f. HasExtents known.now.extents f.value) }
+    ensures read { IfOk result (λ f. IsRead text.now at f.to (matrix_line_text f.value)) }
+    ensures noted { IfOk result (λ f. notes.new.unknown ≡ or_else notes.old.unknown (unknown_cell known.now f.value at)) }
+    ensures places { IfOk result (λ f. notes.new.places.items ≡ notes.old.places.items ++ matrix_line_places f.value at) }
+    ensures whole { IfOk result (λ f. IsWhole WalkForm text.now at f.to) }
+    ensures refused { IfErr result (λ e. IsRefused WalkForm (Some 64) text.now at e) }
+    ensures shallow { IfOk result (λ f. IsShallow 64 text.now at f.to) }
+    ensures shallow_till { IfErr result (λ e. IsShallowTill 64 text.now at e) }
 {
     let begun = read_word(text, at, b"walk ")?;
-    let pair = read_extents(text, begun, extents, notes)?;
+    let pair = read_extents(text, begun, known.extents, notes)?;
     let behind = read_word(text, pair.to, b" ")?;
-    let leaves = CoverLeaves { covers };
+    let leaves = CoverLeaves {
+        covers: known.covers,
+    };
     let tree = read_tree(alloc, &leaves, text, behind, DEPTH, notes)?;
     Ok(Found {
         value: MatrixLine::Walk(pair.value, tree.value),
@@ -115,19 +136,24 @@ fn read_matrix_form(
     requires { at ≤ length text.now }
     ensures moves { IfOk result (λ f. (at + matrix_line_nodes f.value ≤ f.to) × (f.to ≤ length text.now)) }
     ensures known { notes.new.unknown ≡ None → IfOk result (λ f. HasExtents known.now.extents f.value) }
-    ensures read { notes.new.unknown ≡ None → IfOk result (λ f. IsRead text.now at f.to (matrix_line_text f.value)) }
-    ensures places { notes.new.unknown ≡ None → IfOk result (λ f. notes.new.places.items ≡ notes.old.places.items ++ matrix_line_places f.value at) }
+    ensures read { IfOk result (λ f. IsRead text.now at f.to (matrix_line_text f.value)) }
+    ensures noted { IfOk result (λ f. notes.new.unknown ≡ or_else notes.old.unknown (unknown_cell known.now f.value at)) }
+    ensures places { IfOk result (λ f. notes.new.places.items ≡ notes.old.places.items ++ matrix_line_places f.value at) }
+    ensures whole { IfOk result (λ f. IsWhole MatrixForm text.now at f.to) }
+    ensures refused { IfErr result (λ e. IsRefused MatrixForm (Some 64) text.now at e) }
+    ensures shallow { IfOk result (λ f. IsShallow 64 text.now at f.to) }
+    ensures shallow_till { IfErr result (λ e. IsShallowTill 64 text.now at e) }
 {
-    match byte_at(text, at) {
-        Some(b'c') => read_cover(alloc, known.orders, known.extents, text, at, notes),
-        Some(b'w') => read_walk(alloc, known.covers, known.extents, text, at, notes),
-        _ => {
-            let to = read_word(text, at, b"end")?;
-            Ok(Found {
-                value: MatrixLine::End,
-                to,
-            })
-        }
+    if stands_at(text, at, b'c') {
+        read_cover(alloc, known, text, at, notes)
+    } else if stands_at(text, at, b'w') {
+        read_walk(alloc, known, text, at, notes)
+    } else {
+        let to = read_word(text, at, b"end")?;
+        Ok(Found {
+            value: MatrixLine::End,
+            to,
+        })
     }
 }
 
@@ -139,8 +165,7 @@ pub struct Counts {
     pub covers: u32,
 }
 
-/// The line that begins here, with its line feed. It is the one that is spelled here, unless it names what isn't
-/// there.
+/// The line that begins here, with its line feed. Where it names what isn't there, the first such name is noted.
 pub fn read_matrix_line(
     alloc: Global,
     known: &Counts,
@@ -151,8 +176,13 @@ pub fn read_matrix_line(
     requires { at ≤ length text.now }
     ensures moves { IfOk result (λ f. (at + matrix_line_nodes f.value < f.to) × (f.to ≤ length text.now)) }
     ensures known { notes.new.unknown ≡ None → IfOk result (λ f. HasExtents known.now.extents f.value) }
-    ensures read { notes.new.unknown ≡ None → IfOk result (λ f. IsRead text.now at f.to (matrix_line_text f.value ++ 10 ∷ [])) }
-    ensures places { notes.new.unknown ≡ None → IfOk result (λ f. notes.new.places.items ≡ notes.old.places.items ++ matrix_line_places f.value at) }
+    ensures read { IfOk result (λ f. IsRead text.now at f.to (matrix_line_text f.value ++ 10 ∷ [])) }
+    ensures noted { IfOk result (λ f. notes.new.unknown ≡ or_else notes.old.unknown (unknown_cell known.now f.value at)) }
+    ensures places { IfOk result (λ f. notes.new.places.items ≡ notes.old.places.items ++ matrix_line_places f.value at) }
+    ensures whole { IfOk result (λ f. IsWhole MatrixLineForm text.now at f.to) }
+    ensures refused { IfErr result (λ e. IsRefused MatrixLineForm (Some 64) text.now at e) }
+    ensures shallow { IfOk result (λ f. IsShallow 64 text.now at f.to) }
+    ensures shallow_till { IfErr result (λ e. IsShallowTill 64 text.now at e) }
 {
     let line = read_matrix_form(alloc, known, text, at, notes)?;
     let to = read_word(text, line.to, b"\n")?;

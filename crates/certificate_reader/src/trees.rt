@@ -1,10 +1,14 @@
 // Trees of certificates: leaves, `w(` tree `)` and `j(` tree `,` tree `)`.
-ghost use Rattle.std.specs.Prelude.{◌≡◌, ◌<◌, ◌≤◌, ◌+◌, ◌++◌, ◌∷◌, [], None, IfOk, OnOk, length};
+ghost use Rattle.std.specs.Prelude.{◌≡◌, ◌<◌, ◌≤◌, ◌+◌, ◌++◌, ◌∷◌, [], None, IfOk, OnOk, length, IfErr, Some};
 ghost use Rattle.proof_core.specs.Proofs.{node_count};
 ghost use Rattle.certificate_reader.specs.Reads.{IsRead};
+ghost use Rattle.certificate_reader.specs.Beginnings.{IsShallow, IsShallowTill, Word, IsWhole, IsRefused};
+ghost use Rattle.certificate_reader.specs.TreeGrammar.{Tree, IsUnopened};
+ghost use Rattle.certificate_reader.specs.LineGrammar.{LeafOf};
+ghost use Rattle.certificate_reader.specs.Unknowns.{IsFaithful, IsSure, or_else, unknown_leaf};
 ghost use Rattle.certificate_reader.specs.TreeTexts.{tree_bytes, node_places};
 
-use crate::words::{Found, byte_at, read_word};
+use crate::words::{Found, byte_at, read_word, stands_at};
 use crate::{CertRefusal, Join, LeafForm, Notes, Weaken};
 use proof_core::Proof;
 use std::alloc::Global;
@@ -18,17 +22,20 @@ fn read_open(text: &[u8], at: usize, depth: u32) -> Result<usize, CertRefusal>
     ensures read { IfOk result (λ to. IsRead text.now at to (40 ∷ [])) }
     ensures moves { IfOk result (λ to. to ≡ at + 1) }
     ensures within { OnOk result (0 < depth) }
+    ensures whole { IfOk result (λ to. IsWhole (Word (40 ∷ [])) text.now at to) }
+    ensures refused { IfErr result (λ e. IsUnopened depth text.now at e) }
 {
-    let inside = read_word(text, at, b"(")?;
-    if depth == 0 {
-        Err(CertRefusal::K2(at as u64))
-    } else {
-        Ok(inside)
+    if !stands_at(text, at, b'(') {
+        return Err(CertRefusal::K1(at as u64));
     }
+    if depth == 0 {
+        return Err(CertRefusal::K2(at as u64));
+    }
+    Ok(at + 1)
 }
 
-/// A tree in which so many parentheses may stand open. It is the one that is spelled here, unless it names what
-/// isn't there.
+/// A tree in which so many parentheses may stand open. It is the one that is spelled here, unless its leaves are
+/// classes and one isn't there.
 pub fn read_tree<L: LeafForm>(
     alloc: Global,
     form: &L,
@@ -40,8 +47,13 @@ pub fn read_tree<L: LeafForm>(
     requires { at ≤ length text.now }
     ensures sticky { notes.new.unknown ≡ None → notes.old.unknown ≡ None }
     ensures moves { IfOk result (λ f. (at + node_count f.value ≤ f.to) × (f.to ≤ length text.now)) }
-    ensures read { notes.new.unknown ≡ None → IfOk result (λ f. IsRead text.now at f.to (tree_bytes L.text_of f.value)) }
-    ensures places { notes.new.unknown ≡ None → IfOk result (λ f. notes.new.places.items ≡ notes.old.places.items ++ node_places L.text_of f.value at) }
+    ensures read { IsSure (L.kind_of form.now) notes.new.unknown → IfOk result (λ f. IsRead text.now at f.to (tree_bytes L.text_of f.value)) }
+    ensures places { IsSure (L.kind_of form.now) notes.new.unknown → IfOk result (λ f. notes.new.places.items ≡ notes.old.places.items ++ node_places L.text_of f.value at) }
+    ensures noted { IsFaithful (L.kind_of form.now) → IfOk result (λ f. notes.new.unknown ≡ or_else notes.old.unknown (unknown_leaf L.text_of (L.names_nothing form.now) f.value at)) }
+    ensures whole { IfOk result (λ f. IsWhole (Tree (LeafOf (L.kind_of form.now))) text.now at f.to) }
+    ensures refused { IfErr result (λ e. IsRefused (Tree (LeafOf (L.kind_of form.now))) (Some depth) text.now at e) }
+    ensures shallow { IfOk result (λ f. IsShallow depth text.now at f.to) }
+    ensures shallow_till { IfErr result (λ e. IsShallowTill depth text.now at e) }
 {
     match byte_at(text, at) {
         Some(b'w') => {

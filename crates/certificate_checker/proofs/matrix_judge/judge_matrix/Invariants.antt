@@ -4,6 +4,8 @@ use Rattle.certificate_reader.specs.MatrixTexts.{matrix_line_text}
 use Rattle.certificate_reader.specs.declared.matrix_lines.MatrixLine.{MatrixLine}
 use Rattle.certificate_checker.specs.MatrixClaims.{AreCovers, AreMatrixTrue}
 use Rattle.certificate_checker.specs.Verified.{lines_text}
+use Rattle.certificate_checker.specs.Texts.{CellLine}
+use Rattle.certificate_checker.proofs.Stops.{IsPassed}
 use Rattle.certificate_checker.proofs.matrix_judge.judge_matrix.Given as goal
 
 abbrev pub invariant-lines : goal.invariant-lines
@@ -12,6 +14,7 @@ invariant-lines l = record {
   count : length l.covers ≤ l.at;
   within : l.at ≤ length l.text;
   shown : (lines : List MatrixLine) × (IsRead l.text l.fn.from l.at (lines_text matrix_line_text lines) × AreMatrixTrue l.orders lines);
+  passed : IsPassed CellLine 64 l.text l.fn.from l.at;
 }
 
 abbrev pub decreases-lines : goal.decreases-lines

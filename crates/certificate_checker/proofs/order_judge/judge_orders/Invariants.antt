@@ -1,11 +1,13 @@
 use Rattle.std.proofs.Common.{◌≡◌, ◌-◌, ◌≤◌, length, List}
-use Rattle.std.specs.Prelude.{vec_len}
+use Rattle.std.specs.Prelude.{vec_len, cond, Some, None}
 use Rattle.certificate_reader.specs.Reads.{IsRead}
 use Rattle.certificate_reader.specs.OrderTexts.{order_line_text}
 use Rattle.certificate_reader.specs.declared.order_lines.OrderLine.{OrderLine}
 use Rattle.certificate_checker.specs.Questions.{IsSettled}
 use Rattle.certificate_checker.specs.OrderClaims.{IsJudged}
 use Rattle.certificate_checker.specs.Verified.{lines_text}
+use Rattle.certificate_checker.specs.Texts.{ClaimLine}
+use Rattle.certificate_checker.proofs.Stops.{IsPassed}
 use Rattle.certificate_checker.proofs.order_judge.judge_orders.Given as goal
 
 abbrev pub invariant-lines : goal.invariant-lines
@@ -18,6 +20,7 @@ invariant-lines l = record {
   same : l.judge.shared.theory.orders.now ≡ l.orders;
   judged : (lines : List OrderLine) × (IsRead l.text l.fn.from l.at (lines_text order_line_text lines)
       × IsJudged l.orders l.periods l.judge.shared.kept l.judge.placings.items l.judge.next l.judge.cycled lines);
+  passed : IsPassed (ClaimLine (cond l.fn.shares (Some 0) None)) 64 l.text l.fn.from l.at;
 }
 
 abbrev pub decreases-lines : goal.decreases-lines
