@@ -1,13 +1,13 @@
 -- A reference that is resolved has the scheme of its base.
-use Rattle.std.proofs.Common.{ℕ, ◌+◌, ◌-◌, ◌≡◌, List, [], ◌∷◌, ◌++◌, take, drop, get_or, refl, ap, sym, ◌∙◌, subst, arith}
-use Rattle.std.specs.Prelude.{Bool, true, false, cond, ◌==◌, ◌&&◌, Option, None, Some}
-use Rattle.std.specs.List.{prefix_len, slice_range}
-use Rattle.std.proofs.lemmas.Bool.{true≢false, false≢true}
+use Rattle.std.proofs.Common.{ℕ, ◌≡◌, List, [], ◌∷◌, ◌++◌, take, get_or, refl, ap, sym, ◌∙◌, subst, arith}
+use Rattle.std.specs.Prelude.{Bool, true, false, cond, ◌==◌, ◌&&◌, None, Some}
+use Rattle.std.specs.List.{prefix_len}
+use Rattle.std.proofs.lemmas.Bool.{false≢true}
 use Rattle.std.proofs.lemmas.Grind.{common_steps}
 use Rattle.std.specs.Char.{is_ascii_alphabetic}
 use Rattle.std.proofs.lemmas.Bool.Decides.{nat_tests}
-use Rattle.iri_resolve.specs.Splitting.{is_there, has_scheme, is_scheme_byte, scheme_length, split, split_by, scheme_span}
-use Rattle.iri_resolve.specs.Resolution.{Pieces, pieces, resolved, recomposed, target, marked, colon, slashes, question, number_sign, piece_of}
+use Rattle.iri_resolve.specs.Splitting.{is_there, has_scheme, is_scheme_byte, scheme_length, scheme_span}
+use Rattle.iri_resolve.specs.Resolution.{pieces, resolved, target, marked, colon, slashes, question, number_sign, piece_of}
 
 -- bytes of a scheme, and then a colon
 abbrev goes_on : List ℕ → Bool
