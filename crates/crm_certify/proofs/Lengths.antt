@@ -1,9 +1,8 @@
 -- Certificates within their length, and longer ones.
-use Rattle.std.proofs.Common.{◌≡◌, refl, ℕ, ◌<◌, ◌≤◌, List, length, true, false, arith, sym, subst, ap, inl, inr, Option, Result, codes}
+use Rattle.std.proofs.Common.{◌≡◌, ℕ, ◌<◌, ◌≤◌, List, length, true, false, arith, subst, Option, Result, codes}
 use Rattle.std.specs.Prelude.{nat_lt}
 use Rattle.std.proofs.lemmas.Bool.Decides.{nat_tests}
 use Rattle.crm_outside.specs.declared.printing.PrintFault.{PrintFault}
-use Rattle.crm_outside.specs.Printing.{Prints}
 use Rattle.crm_core.specs.declared.status.Status.{Status}
 use Rattle.crm_core.specs.Reports.{Report, Tells, passed}
 use Rattle.crm_certify.specs.Lengths.{within_length}

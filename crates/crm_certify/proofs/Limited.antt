@@ -11,8 +11,7 @@ use Rattle.crm_core.specs.declared.status.Status.{Status}
 use Rattle.crm_core.specs.declared.status.Status.TheVariants.{Done, Findings as HasFindings}
 use Rattle.crm_core.specs.Reports.{Report, Tells, TellsPassed, within_limits, findings_from, told}
 use Rattle.crm_core.proofs.Limits.{few_told, passed_told, told_writes}
-use Rattle.order_core.specs.Sets.{Orders}
-use Rattle.certificate_reader.specs.declared.refusals.CertRefusal.TheVariants.{K1}
+use Rattle.certificate_reader.specs.declared.refusals.CertRefusal.TheVariants.{K3}
 use Rattle.crm_certify.specs.declared.kinds.CertKind.{CertKind}
 use Rattle.crm_certify.specs.declared.kinds.CertKind.TheVariants.{Orders as OfOrders, Classes as OfClasses, Matrix as OfMatrix}
 use Rattle.crm_certify.specs.Lengths.{TellsSome}
@@ -23,8 +22,9 @@ some_matrix : (found : Option (List ℕ)) → (m : Report) × IsMatrixReport fou
 some_matrix None = (record { status = Done; text = [] }, record { status = inl refl })
 some_matrix (Some cycle) = (record { status = HasFindings; text = inconsistent_text cycle }, refl)
 
-some_judgement : (g : Orders) (periods cert : List ℕ) → (r : Report) × IsJudgement g periods cert r
-some_judgement g periods cert = (refused_at (codes "K1") 0, inr (inr (K1 0, refl)))
+-- K3 says nothing of the text alone
+some_judgement : (r : Records) (cert : List ℕ) → (j : Report) × IsJudgement r cert j
+some_judgement r cert = (refused_at (codes "K3") 0, inr (inr (K3 0, (refl, tt))))
 
 module _ {S : Type 0} (written : S → Option (List ℕ)) (faults sure : S → ℕ) where
   starved_told : (a : S) (r : Report) → Tells written faults sure a a r (Err Memory)
@@ -53,10 +53,9 @@ module _ {S : Type 0} (written : S → Option (List ℕ)) (faults sure : S → �
   consistent_told a b found x none p = rw none p
 
   pub judged_told : (a b : S) (r : Records) (d : Findings) (cert : List ℕ) (x : Result Status PrintFault) → d ≡ findings_from r → AreFew d
-      → TellsJudged written faults sure a b d.orders d.periods cert x → TellsVerdict written faults sure a b r cert x
+      → TellsJudged written faults sure a b r cert x → TellsVerdict written faults sure a b r cert x
   judged_told a b r d cert x e few p =
-      subst (λ (f : Findings). (j : Report) × (IsJudgement f.orders f.periods cert j × Tells written faults sure a b (within_limits f j) x)) e
-      (p.0, (p.1.0, few_told written faults sure a b d p.0 x few p.1.1))
+      (p.0, (p.1.0, subst (λ (f : Findings). Tells written faults sure a b (within_limits f p.0) x) e (few_told written faults sure a b d p.0 x few p.1.1)))
 
   pub orders_told : (a b : S) (r : Records) (d : Findings) (x : Result Status PrintFault) → d ≡ findings_from r → AreFew d
       → Tells written faults sure a b (orders_report_by (cycle_of d.orders) d) x → Tells written faults sure a b (orders_certificate r) x
@@ -73,12 +72,12 @@ module _ {S : Type 0} (written : S → Option (List ℕ)) (faults sure : S → �
   pub judged_passed : (a b : S) (r : Records) (fault : BuildFault) (cert : List ℕ) (x : Result Status PrintFault) → IsPassed (findings_from r) fault
       → TellsPassed written faults sure a b fault x → TellsVerdict written faults sure a b r cert x
   judged_passed a b r fault cert x is p =
-      let j = some_judgement (findings_from r).orders (findings_from r).periods cert in
+      let j = some_judgement r cert in
       (j.0, (j.1, passed_told written faults sure a b (findings_from r) j.0 fault x is p))
 
   pub judged_starved : (a : S) (r : Records) (cert : List ℕ) → TellsVerdict written faults sure a a r cert (Err Memory)
   judged_starved a r cert =
-      let j = some_judgement (findings_from r).orders (findings_from r).periods cert in (j.0, (j.1, starved_told a (within_limits (findings_from r) j.0)))
+      let j = some_judgement r cert in (j.0, (j.1, starved_told a (within_limits (findings_from r) j.0)))
 
   -- what was told is written
   pub verdict_written : (a b : S) (r : Records) (cert : List ℕ) (x : Result Status PrintFault) → TellsVerdict written faults sure a b r cert x

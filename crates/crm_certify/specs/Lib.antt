@@ -1,4 +1,5 @@
 pub mod Lengths
 pub mod Certificates
+pub mod Types
 pub mod Verdicts
 pub mod MatrixStages

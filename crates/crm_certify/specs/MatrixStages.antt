@@ -1,5 +1,5 @@
 -- What is kept while a certificate of a matrix is printed.
-use Rattle.std.specs.Prelude.{ℕ, ◌<◌, ⊤, Option, None, Some}
+use Rattle.std.specs.Prelude.{◌<◌, ⊤, Option, None, Some}
 use Rattle.order_laws.specs.declared.Point.TheVariants.{End}
 use Rattle.order_core.specs.Sets.{Orders}
 use Rattle.chain_certificate.specs.Routes.{IsRoutesOf}

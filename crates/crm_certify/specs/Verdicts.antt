@@ -7,14 +7,14 @@ use Rattle.crm_core.specs.declared.status.Status.{Status}
 use Rattle.crm_core.specs.declared.status.Status.TheVariants.{Done, Findings as HasFindings, Refused}
 use Rattle.rdf_terms.specs.declared.triples.Records.{Records}
 use Rattle.rdf_chars.specs.Utf8.{IsUtf8Length}
-use Rattle.order_core.specs.Sets.{Orders}
 use Rattle.crm_outside.specs.declared.printing.PrintFault.{PrintFault}
 use Rattle.certificate_reader.specs.declared.refusals.CertRefusal.{CertRefusal}
 use Rattle.certificate_reader.specs.declared.refusals.CertRefusal.TheVariants.{K1, K2, K3, K4, K5, K6, Memory}
-use Rattle.certificate_checker.specs.declared.class_judge.TypeRow.{TypeRow}
 use Rattle.certificate_checker.specs.Verified.{IsVerified}
+use Rattle.certificate_checker.specs.Texts.{CertificateForm, IsRefusedAs}
 use Rattle.crm_core.specs.declared.status.ReportFault.{ReportFault}
 use Rattle.crm_core.specs.Reports.{Report, Tells, Writes, findings_from, within_limits}
+use Rattle.crm_certify.specs.Types.{types_in, due_in}
 
 abbrev pub verdict_text : Verdict → List ℕ
 verdict_text Consistent = codes "verified consistent\n"
@@ -46,28 +46,26 @@ refusal_report (K5 at) = Some (refused_at (codes "K5") at)
 refusal_report (K6 at) = Some (refused_at (codes "K6") at)
 refusal_report Memory = None
 
--- the records bear out what the verdict claims
-abbrev pub IsBorneOut : Orders → List ℕ → List ℕ → Verdict → Type 0
-IsBorneOut g periods cert v = (types : List TypeRow) × ((due : List ℕ) × IsVerified g periods types due cert v)
+-- the records bear out what the verdict claims, by their orders, their types and the triples that have fault C2
+abbrev pub IsBorneOut : Records → List ℕ → Verdict → Type 0
+IsBorneOut r cert v = IsVerified (findings_from r).orders (findings_from r).periods (types_in r) (due_in r) cert v
 
--- the place from which the text is no UTF-8, a verdict that the records bear out, or a code and a place
-abbrev pub IsJudgement : Orders → List ℕ → List ℕ → Report → Type 0
-IsJudgement g periods cert r =
+-- the place from which the text is no UTF-8, a verdict that the records bear out, or why the text is refused: K1 and K2 exactly at their places
+abbrev pub IsJudgement : Records → List ℕ → Report → Type 0
+IsJudgement records cert r =
     ((at : ℕ) × (IsUtf8Length cert at × (r ≡ refused_at (codes "U1") at)))
-    ⊎ (((v : Verdict) × ((r ≡ verdict_report v) × IsBorneOut g periods cert v))
-    ⊎ ((f : CertRefusal) × (refusal_report f ≡ Some r)))
+    ⊎ (((v : Verdict) × ((r ≡ verdict_report v) × IsBorneOut records cert v))
+    ⊎ ((f : CertRefusal) × ((refusal_report f ≡ Some r) × IsRefusedAs CertificateForm 64 cert 0 f)))
 
 module _ {S : Type 0} (written : S → Option (List ℕ)) (faults sure : S → ℕ) (old new : S) where
-  abbrev pub TellsJudged : Orders → List ℕ → List ℕ → Result Status PrintFault → Type 0
-  TellsJudged g periods cert result = (r : Report) × (IsJudgement g periods cert r × Tells written faults sure old new r result)
+  abbrev pub TellsJudged : Records → List ℕ → Result Status PrintFault → Type 0
+  TellsJudged records cert result = (r : Report) × (IsJudgement records cert r × Tells written faults sure old new r result)
 
   -- within the limits of the counts of extents, dates and orders
   abbrev pub TellsVerdict : Records → List ℕ → Result Status PrintFault → Type 0
   TellsVerdict records cert result =
-      (r : Report) × (IsJudgement (findings_from records).orders (findings_from records).periods cert r
-      × Tells written faults sure old new (within_limits (findings_from records) r) result)
+      (r : Report) × (IsJudgement records cert r × Tells written faults sure old new (within_limits (findings_from records) r) result)
 
   abbrev pub WritesVerdict : Records → List ℕ → Result Status ReportFault → Type 0
   WritesVerdict records cert result =
-      (r : Report) × (IsJudgement (findings_from records).orders (findings_from records).periods cert r
-      × Writes written faults sure old new (within_limits (findings_from records) r) result)
+      (r : Report) × (IsJudgement records cert r × Writes written faults sure old new (within_limits (findings_from records) r) result)

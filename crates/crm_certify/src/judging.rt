@@ -1,7 +1,8 @@
 // The command that judges certificates.
-ghost use Rattle.std.specs.Prelude.{◌≡◌, ◌≤◌, IfOk, MatchOption, length, string_bytes};
+ghost use Rattle.std.specs.Prelude.{◌≡◌, ◌≤◌, IfOk, IfErr, MatchOption, length, string_bytes};
+ghost use Rattle.certificate_checker.specs.Texts.{CertificateForm, IsRefusedAs};
 ghost use Rattle.crm_core.specs.Reports.{Tells, IsEnding};
-ghost use Rattle.crm_core.specs.Reports.{Report};
+ghost use Rattle.crm_core.specs.Reports.{Report, faults_in, findings_from};
 ghost use Rattle.crm_certify.specs.Verdicts.{IsBorneOut, TellsJudged, TellsVerdict, WritesVerdict};
 ghost use Rattle.crm_certify.specs.Verdicts as spec;
 
@@ -23,11 +24,18 @@ fn judge(
     dossier: &Dossier,
     cert: &[u8],
 ) -> Result<Verdict, CertRefusal>
-    requires { length cert.now ≤ 67108864 }
-    ensures { IfOk result (λ v. IsBorneOut dossier.now.orders dossier.now.periods cert.now v) }
+    requires short { length cert.now ≤ 67108864 }
+    requires faults { survey.now.faults ≡ faults_in records.now }
+    requires found { dossier.now ≡ findings_from records.now }
+    ensures borne_out { IfOk result (IsBorneOut records.now cert.now) }
+    ensures refused { IfErr result (IsRefusedAs CertificateForm 64 cert.now 0) }
 {
-    let types = type_rows(alloc, records)?;
-    let due = due_numbers(alloc, &survey.faults)?;
+    let Ok(types) = type_rows(alloc, records) else {
+        return Err(CertRefusal::Memory);
+    };
+    let Ok(due) = due_numbers(alloc, &survey.faults) else {
+        return Err(CertRefusal::Memory);
+    };
     verify(
         alloc,
         dossier.orders(),
@@ -114,8 +122,10 @@ fn tell_judgement<W: Sink>(
     cert: &[u8],
     out: &mut W,
 ) -> Result<Status, PrintFault>
-    requires { length cert.now ≤ 67108864 }
-    ensures { TellsJudged W.written W.faults W.sure out.old out.new dossier.now.orders dossier.now.periods cert.now result }
+    requires short { length cert.now ≤ 67108864 }
+    requires faults { survey.now.faults ≡ faults_in records.now }
+    requires found { dossier.now ≡ findings_from records.now }
+    ensures { TellsJudged W.written W.faults W.sure out.old out.new records.now cert.now result }
 {
     if let Err(bad) = check_utf8(cert) {
         return tell_place(alloc, "U1", bad.at, out);
