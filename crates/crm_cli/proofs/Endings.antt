@@ -8,15 +8,15 @@ use Rattle.crm_core.specs.declared.status.Status.{Status}
 use Rattle.crm_core.specs.declared.status.Status.TheVariants.{Done, Findings, Refused, Usage, ReadFault, WriteFault, Memory}
 use Rattle.crm_core.specs.declared.status.ReportFault.{ReportFault}
 use Rattle.crm_core.specs.declared.status.ReportFault.TheVariants as report
-use Rattle.crm_core.specs.Files.{Answers, AnswersBytes, IsTold, file_answer, is_ntriples}
+use Rattle.crm_core.specs.Files.{Answers, AnswersBytes, is_ntriples}
 use Rattle.crm_core.specs.Reports.{Report, Writes}
 use Rattle.rdf_terms.specs.declared.triples.Records.{Records}
 use Rattle.ntriples_reader.specs.Answers.{Answer}
 use Rattle.crm_cli.specs.declared.words.Command.{Command}
 use Rattle.crm_cli.specs.Outcomes.{Outcome, Ends, IsComplete, Faulted, ended}
 use Rattle.crm_matrix.specs.Samples.{sample_report}
-use Rattle.crm_cli.specs.Words.{sample_of}
-use Rattle.crm_cli.specs.Report.{read_fault_report, file_report, usage_report, command_report, records_report, answer_report, told_report, report_over, sample_or}
+use Rattle.crm_cli.specs.Words.{base_of, sample_of}
+use Rattle.crm_cli.specs.Report.{read_fault_report, file_report, usage_report, command_report, records_report, answer_report, report_over, sample_or}
 
 module _ {S : Type 0} (written : S → Option (List ℕ)) (faults sure : S → ℕ) (a b : S) where
   module _ (status : Status) where
@@ -59,19 +59,15 @@ module _ {S : Type 0} (written : S → Option (List ℕ)) (faults sure : S → �
 -- what is said of records is the end of their file's report
 module _ {S : Type 0} (written : S → Option (List ℕ)) (faults sure : S → ℕ) (a b : S) (command : Command) (name : List ℕ) (r : Records) (s : Status)
     (h : Ends written faults sure a b (records_report command r) s) where
-  by_answer : (o : Option Answer) → IsTold (Ok r) o → Ends written faults sure a b (told_report command o) s
-  by_answer None told = tt
-  by_answer (Some x) told = subst (λ (y : Answer). Ends written faults sure a b (answer_report command y) s) (sym told) h
-
-  by_bytes : (o : Option (List ℕ)) → AnswersBytes (is_ntriples name) o (Ok r) → Ends written faults sure a b (file_report command name o) s
+  by_bytes : (o : Option (List ℕ)) → AnswersBytes (is_ntriples name) (base_of command) o (Ok r) → Ends written faults sure a b (file_report command name o) s
   by_bytes None told = absurd told
-  by_bytes (Some bytes) told = by_answer (file_answer (is_ntriples name) bytes) told
+  by_bytes (Some bytes) told = subst (λ (y : Answer). Ends written faults sure a b (answer_report command y) s) (sym told) h
 
-  pub records_end : (o : Option Files) → Answers o name (Ok r) → IfSome o (λ files. Ends written faults sure a b (file_report command name (files name)) s)
+  pub records_end : (o : Option Files) → Answers o (base_of command) name (Ok r) → IfSome o (λ files. Ends written faults sure a b (file_report command name (files name)) s)
   records_end None told = tt
   records_end (Some files) told = by_bytes (files name) told
 
-  pub records_end_or : (X : Type 0) (o : Option Files) → Answers o name (Ok r) → IfSome o (λ files. Ends written faults sure a b (file_report command name (files name)) s ⊎ X)
+  pub records_end_or : (X : Type 0) (o : Option Files) → Answers o (base_of command) name (Ok r) → IfSome o (λ files. Ends written faults sure a b (file_report command name (files name)) s ⊎ X)
   records_end_or X None told = tt
   records_end_or X (Some files) told = inl (by_bytes (files name) told)
 

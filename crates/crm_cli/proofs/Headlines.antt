@@ -23,10 +23,10 @@ use Rattle.crm_core.proofs.Limits.{within}
 use Rattle.crm_core.proofs.Naming.{few_of, period_within}
 use Rattle.crm_cli.specs.declared.words.Command.{Command}
 use Rattle.crm_cli.specs.declared.words.Command.TheVariants.{Orders as OrdersCommand, Check, Reason, Explain, Certify, Verify, Matrix, Convert, Sample}
-use Rattle.crm_cli.specs.Headline.{IsTrueReason, IsTrueAnswer, IsReasoned, IsExplained, IsReport, IsSaid, Says, SaysTruly, answer_at, front_of}
+use Rattle.crm_cli.specs.Headline.{IsTrueReason, IsTrueAnswer, IsReasoned, IsExplained, IsReport, IsSaid, Says, SaysTruly, IsReadTo, answer_at, front_of}
 use Rattle.crm_cli.specs.Outcomes.{Outcome, Ends, Faulted}
-use Rattle.crm_cli.specs.Report.{command_report, file_report, read_fault_report, records_report, report_over, sample_or, told_report}
-use Rattle.crm_cli.specs.Words.{file_of, sample_of}
+use Rattle.crm_cli.specs.Report.{command_report, file_report, read_fault_report, records_report, report_over, sample_or, answer_report}
+use Rattle.crm_cli.specs.Words.{base_of, file_of, sample_of}
 
 module _
     (reasons : (set : Orders) (periods front : List ℕ) → IsOrderSet set.list set.extents set.dates → AreExtents set.extents periods →
@@ -105,14 +105,18 @@ module _
       explained r left code right (period_named r.names (findings_from r).extents left) (period_named r.names (findings_from r).extents right) refl refl is few.1
       (subst (λ (x : Report). Printed written faults sure a b x.text) (within (findings_from r) asked few.0) got.1)
 
-  told : (command : Command) (r : Records) (o : Option (List ℕ)) → answer_at (file_of command) o ≡ Some (Read r) → IsReport status →
+  abbrev reported : Command → Option Answer → Option Report
+  reported command None = None
+  reported command (Some x) = answer_report command x
+
+  told : (command : Command) (r : Records) (o : Option (List ℕ)) → answer_at (base_of command) (file_of command) o ≡ Some (Read r) → IsReport status →
       Ends written faults sure a b (file_report command (file_of command) o) status → Says written a b command r
   told command r None e is p = absurd (let never : ⊥ = cc in never)
   told command r (Some bytes) e is p =
-      says command r is (subst (λ (x : Option Answer). Ends written faults sure a b (told_report command x) status) e p)
+      says command r is (subst (λ (x : Option Answer). Ends written faults sure a b (reported command x) status) e p)
 
   -- a sample reads no file
-  over : (command : Command) (r : Records) (n : Option ℕ) → sample_of command ≡ n → (files : Files) → answer_at (file_of command) (files (file_of command)) ≡ Some (Read r) →
+  over : (command : Command) (r : Records) (n : Option ℕ) → sample_of command ≡ n → (files : Files) → IsReadTo files command r →
       IsReport status → Ends written faults sure a b (sample_or n (report_over command files)) status → Says written a b command r
   over command r None e files at is p = told command r (files (file_of command)) at is p
   over (Sample m) r (Some n) e files at is p = tt

@@ -4,7 +4,6 @@ use Rattle.std.specs.Prelude.{codes, is_none, nat_lt, if◌then◌else◌}
 use Rattle.rdf_terms.specs.declared.triples.Records.{Records}
 use Rattle.ntriples_reader.specs.Answers.{Answer}
 use Rattle.ntriples_reader.specs.Answers.Answer.{Refuse, Read}
-use Rattle.order_core.specs.Sets.{Orders as OrderSets}
 use Rattle.certificate_checker.specs.declared.verdicts.Verdict.{Verdict}
 use Rattle.certificate_checker.specs.declared.verdicts.Verdict.TheVariants.{Consistent, Inconsistent, Classes, Matrix as MatrixVerdict}
 use Rattle.certificate_reader.specs.declared.refusals.CertRefusal.{CertRefusal}
@@ -64,13 +63,12 @@ matrix_status false e = findings e
 pub matrix_no_usage : (r : Records) → (within_limits (findings_from r) (matrix_found r)).status ≡ Usage → ⊥
 matrix_no_usage r e = limited (findings_from r) (matrix_found r) (matrix_status (is_none (cycle_of (findings_from r).orders))) e
 
-sampled : (n : ℕ) (o : Option Answer) → (answer_report n o).status ≡ Usage → ⊥
-sampled n None e = refused e
-sampled n (Some (Refuse code at)) e = refused e
-sampled n (Some (Read r)) e = limited (findings_from r) (sample_found n r) (matrix_status (is_none (cycle_of (findings_from r).orders))) e
+sampled : (n : ℕ) (a : Answer) → (answer_report n a).status ≡ Usage → ⊥
+sampled n (Refuse code at) e = refused e
+sampled n (Read r) e = limited (findings_from r) (sample_found n r) (matrix_status (is_none (cycle_of (findings_from r).orders))) e
 
 pub sample_no_usage : (n : ℕ) → (sample_report n).status ≡ Usage → ⊥
-sample_no_usage n e = sampled n (file_answer true (sample_file n)) e
+sample_no_usage n e = sampled n (file_answer true None (sample_file n)) e
 
 short : (b : Bool) (r : Report) → (r.status ≡ Usage → ⊥) → (if b then passed (codes "L9") (length r.text) else r).status ≡ Usage → ⊥
 short true r h e = refused e
@@ -116,18 +114,18 @@ by_refusal (refusal.K5 at) r is e = refused (ap status_in is ∙ e)
 by_refusal (refusal.K6 at) r is e = refused (ap status_in is ∙ e)
 by_refusal refusal.Memory r is e = let never : ⊥ = cc in never
 
-judged : (g : OrderSets) (periods cert : List ℕ) (r : Report) → IsJudgement g periods cert r → r.status ≡ Usage → ⊥
-judged g periods cert r is e =
+judged : (r : Records) (cert : List ℕ) (p : Report) → IsJudgement r cert p → p.status ≡ Usage → ⊥
+judged r cert p is e =
     elim is [
       | inl bad ↦ refused (sym (ap (λ (x : Report). x.status) bad.1.1) ∙ e)
       | inr known ↦ elim known [
         | inl v ↦ by_verdict v.0 (sym (ap (λ (x : Report). x.status) v.1.0) ∙ e)
-        | inr f ↦ by_refusal f.0 r f.1 e
+        | inr f ↦ by_refusal f.0 p f.1.0 e
       ]
     ]
 
-pub verdict_no_usage : (found : Found) (g : OrderSets) (periods cert : List ℕ) (r : Report) → IsJudgement g periods cert r → (within_limits found r).status ≡ Usage → ⊥
-verdict_no_usage found g periods cert r is e = limited found r (judged g periods cert r is) e
+pub verdict_no_usage : (found : Found) (r : Records) (cert : List ℕ) (p : Report) → IsJudgement r cert p → (within_limits found p).status ≡ Usage → ⊥
+verdict_no_usage found r cert p is e = limited found p (judged r cert p is) e
 
 -- what ended with usage was written so
 pub ended_usage : (w : Result Status ReportFault) (s : Status) → IfOk w (λ t. (t ≡ s) × IsEnding t) → ended w ≡ Usage → s ≡ Usage

@@ -11,7 +11,7 @@ use Rattle.crm_core.specs.declared.status.ReportFault.{ReportFault}
 use Rattle.crm_core.specs.declared.status.ReportFault.TheVariants as report
 use Rattle.crm_core.specs.declared.status.Status.{Status}
 use Rattle.crm_core.specs.declared.status.Status.TheVariants.{Done, Findings, Refused, Usage, ReadFault, WriteFault, Memory}
-use Rattle.crm_core.specs.Files.{Answers, AnswersBytes, IsTold, file_answer, is_ntriples}
+use Rattle.crm_core.specs.Files.{Answers, AnswersBytes, is_ntriples}
 use Rattle.crm_core.specs.Reports.{Report, Writes, findings_from, within_limits}
 use Rattle.crm_core.proofs.Limits.{within}
 use Rattle.crm_core.proofs.Naming.{few_of}
@@ -20,7 +20,7 @@ use Rattle.crm_cli.specs.declared.words.Command.{Command}
 use Rattle.crm_cli.specs.declared.words.Command.TheVariants.{Orders, Check, Reason, Explain, Certify, Verify, Matrix, Convert, Sample}
 use Rattle.crm_cli.specs.Headline.{IsReport, IsSaid, IsTrueVerdict, JudgesTruly, SaysVerdict, answer_at}
 use Rattle.crm_cli.specs.Outcomes.{Outcome, ended}
-use Rattle.crm_cli.specs.Words.{certificate_of, file_of, sample_of}
+use Rattle.crm_cli.specs.Words.{base_of, certificate_of, file_of, sample_of}
 
 no_report : (s : Status) → (s ≡ Done → ⊥) → (s ≡ Findings → ⊥) → IsReport s → ⊥
 no_report s done found is = elim is [ inl d ↦ done d | inr f ↦ found f ]
@@ -70,7 +70,7 @@ module _ {S : Type 0} (written : S → Option (List ℕ)) (faults sure : S → �
   whole p (Err report.Failed) h is = absurd (write_fault_is_none is)
   whole p (Err report.Memory) h is = absurd (memory_is_none is)
 
-  said : (r : Records) (cert : List ℕ) (p : Report) → IsJudgement (findings_from r).orders (findings_from r).periods cert p → IsReport p.status →
+  said : (r : Records) (cert : List ℕ) (p : Report) → IsJudgement r cert p → IsReport p.status →
       Printed written faults sure a b p.text → IsSaid written a b (IsTrueVerdict r cert)
   said r cert p j is h =
       elim j [
@@ -81,7 +81,7 @@ module _ {S : Type 0} (written : S → Option (List ℕ)) (faults sure : S → �
             whole = h.whole;
             said = record { verdict = v.0; says = ap (λ (x : Report). x.text) v.1.0; borne_out = v.1.1 };
           }
-          | inr f ↦ absurd (refused_by p (sym (ap status_in f.1) ∙ refusals_are_refused f.0) is)
+          | inr f ↦ absurd (refused_by p (sym (ap status_in f.1.0) ∙ refusals_are_refused f.0) is)
         ]
       ]
 
@@ -145,20 +145,17 @@ module _ {S : Type 0} (written : S → Option (List ℕ)) (faults sure : S → �
   answer_in x None = x
   answer_in x (Some y) = y
 
-  same_answer : (x r : Records) (o : Option Answer) → IsTold (Ok x) o → o ≡ Some (Read r) → x ≡ r
-  same_answer x r None told e = absurd (let never : ⊥ = cc in never)
-  same_answer x r (Some y) told e = ap (records_in x) (sym told ∙ ap (answer_in y) e)
-
-  same : (name : List ℕ) (x r : Records) (o : Option (List ℕ)) → AnswersBytes (is_ntriples name) o (Ok x) → answer_at name o ≡ Some (Read r) → x ≡ r
-  same name x r None told e = absurd told
-  same name x r (Some bytes) told e = same_answer x r (file_answer (is_ntriples name) bytes) told e
+  same : (base : Option (List ℕ)) (name : List ℕ) (x r : Records) (o : Option (List ℕ)) → AnswersBytes (is_ntriples name) base o (Ok x)
+      → answer_at base name o ≡ Some (Read r) → x ≡ r
+  same base name x r None told e = absurd told
+  same base name x r (Some bytes) told e = ap (records_in x) (sym told ∙ ap (answer_in (Read x)) e)
 
   -- of the records that were read
-  pub over_records : (command : Command) (x : Records) (s : Status) (o : Option Files) → Answers o (file_of command) (Ok x) →
+  pub over_records : (command : Command) (x : Records) (s : Status) (o : Option Files) → Answers o (base_of command) (file_of command) (Ok x) →
       IfSome o (λ files. IsReport s → SaysVerdict written a b files (certificate_of command) x) → IfSome o (λ files. JudgesTruly written a b files command s)
   over_records command x s None told h = tt
   over_records command x s (Some files) told h = λ r e is.
-      subst (λ (y : Records). SaysVerdict written a b files (certificate_of command) y) (same (file_of command) x r (files (file_of command)) told e) (h is)
+      subst (λ (y : Records). SaysVerdict written a b files (certificate_of command) y) (same (base_of command) (file_of command) x r (files (file_of command)) told e) (h is)
 
   pub no_judgement : (command : Command) (p : Report) (s : Status) → (IsReport p.status → ⊥) → Outcome written faults sure a b p s → (o : Option Files) →
       IfSome o (λ files. JudgesTruly written a b files command s)

@@ -30,7 +30,7 @@ use Rattle.certificate_checker.specs.declared.verdicts.Verdict.{Verdict}
 use Rattle.crm_certify.specs.Verdicts.{IsBorneOut, verdict_text}
 use Rattle.crm_cli.specs.declared.words.Command.{Command}
 use Rattle.crm_cli.specs.declared.words.Command.TheVariants.{Orders as OrdersCommand, Check, Reason, Explain, Certify, Verify, Matrix, Convert, Sample}
-use Rattle.crm_cli.specs.Words.{certificate_of, file_of}
+use Rattle.crm_cli.specs.Words.{base_of, certificate_of, file_of}
 
 -- some placing satisfies all orders
 abbrev pub HasPlacing : Orders → Type 0
@@ -96,16 +96,20 @@ pub record IsExplained (r : Records) (a : List ℕ) (p : Primitive) (b : List �
   pub named_right : period_named r.names (findings_from r).extents b ≡ Some right
   pub answer : IsTrueAnswer (findings_from r).orders left.number p right.number (period_lines r.names left right) text
 
--- what the bytes of a name say, where the name is held and its answer is told
-abbrev pub answer_at : List ℕ → Option (List ℕ) → Option Answer
-answer_at name None = None
-answer_at name (Some bytes) = file_answer (is_ntriples name) bytes
+-- what the bytes of a name say with a base, where the name is held
+abbrev pub answer_at : Option (List ℕ) → List ℕ → Option (List ℕ) → Option Answer
+answer_at base name None = None
+answer_at base name (Some bytes) = Some (file_answer (is_ntriples name) base bytes)
 
--- what `verify` says where it accepts a certificate is true of the records: they bear out what the verdict claims
+-- the file of a command is read to these records
+abbrev pub IsReadTo : Files → Command → Records → Type 0
+IsReadTo files command r = answer_at (base_of command) (file_of command) (files (file_of command)) ≡ Some (Read r)
+
+-- what `verify` says where it accepts a certificate is true of the records: their orders, types and faults bear out what the verdict claims
 pub record IsTrueVerdict (r : Records) (cert text : List ℕ) : Type 0 where
   pub verdict : Verdict
   pub says : text ≡ verdict_text verdict
-  pub borne_out : IsBorneOut (findings_from r).orders (findings_from r).periods cert verdict
+  pub borne_out : IsBorneOut r cert verdict
 
 -- the whole report was written, and it is no refusal
 abbrev pub IsReport : Status → Type 0
@@ -133,7 +137,7 @@ module _ {S : Type 0} (written : S → Option (List ℕ)) (old new : S) where
   abbrev pub SaysTruly : Files → Option Command → Status → Type 0
   SaysTruly files None status = ⊤
   SaysTruly files (Some command) status =
-      (r : Records) → answer_at (file_of command) (files (file_of command)) ≡ Some (Read r) → IsReport status → Says command r
+      (r : Records) → IsReadTo files command r → IsReport status → Says command r
 
   -- of the file of a certificate, where it is held
   abbrev pub SaysVerdict : Files → Option (List ℕ) → Records → Type 0
@@ -143,4 +147,4 @@ module _ {S : Type 0} (written : S → Option (List ℕ)) (old new : S) where
   -- where the file of a command is read to records and its certificate is accepted, the verdict is true of them
   abbrev pub JudgesTruly : Files → Command → Status → Type 0
   JudgesTruly files command status =
-      (r : Records) → answer_at (file_of command) (files (file_of command)) ≡ Some (Read r) → IsReport status → SaysVerdict files (certificate_of command) r
+      (r : Records) → IsReadTo files command r → IsReport status → SaysVerdict files (certificate_of command) r

@@ -14,7 +14,7 @@ use Rattle.crm_core.specs.Files.{Answers}
 use Rattle.crm_core.specs.Reports.{Report, findings_from}
 use Rattle.crm_cli.specs.declared.words.Command.{Command}
 use Rattle.crm_cli.specs.declared.words.Command.TheVariants.{Orders, Check, Reason, Explain, Certify, Verify, Matrix, Convert, Sample}
-use Rattle.crm_cli.specs.Words.{file_of}
+use Rattle.crm_cli.specs.Words.{base_of, file_of}
 use Rattle.crm_cli.specs.Report.{read_fault_report}
 
 -- the status of a report that was written, or broke off
@@ -40,7 +40,7 @@ NamesNoPeriod (Sample n) r = ⊥
 -- the file of a command is read to such records
 pub record AsksInVain (files : Option Files) (command : Command) : Type 0 where
   pub records : Records
-  pub read : Answers files (file_of command) (Ok records)
+  pub read : Answers files (base_of command) (file_of command) (Ok records)
   pub unnamed : NamesNoPeriod command records
 
 -- the words have no form, or they ask in vain

@@ -15,7 +15,7 @@ use Rattle.crm_certify.specs.declared.kinds.CertKind.TheVariants as kind
 use Rattle.crm_certify.specs.Certificates.{orders_certificate}
 use Rattle.crm_cli.specs.declared.words.Command.{Command}
 use Rattle.crm_cli.specs.declared.words.Command.TheVariants.{Orders, Check, Reason, Explain, Certify, Verify, Matrix, Convert, Sample}
-use Rattle.crm_cli.specs.Words.{command_of, file_of, sample_of}
+use Rattle.crm_cli.specs.Words.{base_of, command_of, file_of, sample_of}
 
 -- of certificates, that of the orders is told
 abbrev pub certificate_report : CertKind → Records → Option Report
@@ -40,20 +40,16 @@ abbrev pub answer_report : Command → Answer → Option Report
 answer_report command (Read r) = records_report command r
 answer_report command (Refuse code at) = Some (refusal_report (record { code = code; at = at }))
 
-abbrev pub told_report : Command → Option Answer → Option Report
-told_report command None = None
-told_report command (Some a) = answer_report command a
-
 abbrev pub read_fault_text : List ℕ → List ℕ
 read_fault_text name = codes "read fault " ++ (name ++ codes "\n")
 
 abbrev pub read_fault_report : List ℕ → Report
 read_fault_report name = record { status = ReadFault; text = read_fault_text name }
 
--- of a file by its name, and its bytes where the name is held; none is told where no answer to the bytes is
+-- of a file by its name, and its bytes where the name is held
 abbrev pub file_report : Command → List ℕ → Option (List ℕ) → Option Report
 file_report command name None = Some (read_fault_report name)
-file_report command name (Some bytes) = told_report command (file_answer (is_ntriples name) bytes)
+file_report command name (Some bytes) = answer_report command (file_answer (is_ntriples name) (base_of command) bytes)
 
 abbrev pub usage_report : Report
 usage_report = record { status = Usage; text = codes "usage: crm_cli COMMAND [--base IRI] WORDS\n" }

@@ -231,8 +231,7 @@ fn run_words<S: Shelf, W: Sink>(
 /// Does what the words after the program's name say: reads files from the shelf and prints a report to the sink.
 ///
 /// At `Done`, `Findings`, `Refused` and `Usage` the whole report of the words and the files is appended, at
-/// `ReadFault` the whole line that names the file, at `WriteFault` and `Memory` a front of one of them. The report of a
-/// Turtle file within the limit of length is not told.
+/// `ReadFault` the whole line that names the file, at `WriteFault` and `Memory` a front of one of them.
 pub fn run<S: Shelf, W: Sink>(alloc: Global, words: &[String], shelf: &mut S, out: &mut W) -> Status
     // the text is that of the report; or, where the shelf's count rose, the line of a read fault
     ensures report { IfSome (S.files shelf.old) (λ files.
@@ -240,9 +239,9 @@ pub fn run<S: Shelf, W: Sink>(alloc: Global, words: &[String], shelf: &mut S, ou
         ⊎ Faulted W.written W.faults W.sure out.old out.new (Rose (S.faults shelf.old) (S.faults shelf.new)) (command_of (map string_bytes words.now)) result) }
     ensures honest { S.honest shelf.old ≡ true → IfSome (S.files shelf.old) (λ files.
         Ends W.written W.faults W.sure out.old out.new (report (map string_bytes words.now) files) result) }
-    // of a file that is told the report says what is true of every placing of its starts and ends
+    // of a file that is read the report says what is true of every placing of its starts and ends
     ensures headline { IfSome (S.files shelf.old) (λ files. SaysTruly W.written out.old out.new files (command_of (map string_bytes words.now)) result) }
-    // where `verify` accepts the certificate of a file that is told, its verdict is true of the file's records
+    // where `verify` accepts the certificate of a file that is read, its verdict is true of the file's records
     ensures verdict { IfSome (S.files shelf.old) (λ files. IfSome (command_of (map string_bytes words.now)) (λ command.
         JudgesTruly W.written out.old out.new files command result)) }
     ensures no_form { command_of (map string_bytes words.now) ≡ None → Outcome W.written W.faults W.sure out.old out.new usage_report result }

@@ -13,19 +13,18 @@ use Rattle.rdf_terms.specs.declared.terms.Refusal.{Refusal}
 use Rattle.rdf_terms.specs.declared.triples.Records.{Records}
 use Rattle.ntriples_reader.specs.Answers.{Answer, IsRefusal}
 use Rattle.ntriples_reader.specs.Answers.Answer.{Refuse, Read}
-use Rattle.ntriples_reader.specs.Feeding.{answer}
 use Rattle.ntriples_reader.specs.declared.lines.ReadRefusal.{ReadRefusal}
 use Rattle.ntriples_reader.specs.declared.lines.ReadRefusal.TheVariants as reading
 use Rattle.crm_core.specs.declared.status.ArchiveFault.{ArchiveFault}
 use Rattle.crm_core.specs.declared.status.ArchiveFault.TheVariants.{Failed, Refused, Memory}
-use Rattle.crm_core.specs.Files.{file_answer, text_answer, archived, is_ntriples, IsTold, AnswersBytes, Answers, IsFed, IsFedWhole, IsLong, IsTakenLong, IsOut, IsReadOut}
+use Rattle.crm_core.specs.Files.{file_answer, text_answer, archived, is_ntriples, IsAnswer, AnswersBytes, Answers, IsFed, IsFedWhole, IsLong, IsTakenLong, IsOut, IsReadOut}
 
 -- nothing was fed
-pub fed_nothing : (a : Option (List ℕ)) (p : List ℕ → Option Answer) → IsFed a a p p 0
+pub fed_nothing : (a : Option (List ℕ)) (p : List ℕ → Answer) → IsFed a a p p 0
 fed_nothing a p = record { bytes = []; count = refl; taken = Consumes-nil a; fed = λ more. refl }
 
 -- a piece more
-fed_more : (a b c : Option (List ℕ)) (p q r : List ℕ → Option Answer) (n : ℕ) (piece : List ℕ) → IsFed a b p q n → Consumes b c piece
+fed_more : (a b c : Option (List ℕ)) (p q r : List ℕ → Answer) (n : ℕ) (piece : List ℕ) → IsFed a b p q n → Consumes b c piece
     → ((more : List ℕ) → r more ≡ q (piece ++ more)) → IsFed a c p r (n + length piece)
 fed_more a b c p q r n piece f taken fed = record {
   bytes = f.bytes ++ piece;
@@ -45,100 +44,88 @@ module _ (count : ℕ) (buf rest : List ℕ) (le : count ≤ length buf) where
   window_count = ap (λ (l : List ℕ). length l) window_front ∙ front_count
 
   -- the front of a window more
-  pub fed_window : (a b c : Option (List ℕ)) (p q r : List ℕ → Option Answer) (n : ℕ) → IsFed a b p q n → Consumes b c (take count buf)
+  pub fed_window : (a b c : Option (List ℕ)) (p q r : List ℕ → Answer) (n : ℕ) → IsFed a b p q n → Consumes b c (take count buf)
       → ((more : List ℕ) → r more ≡ q (take count (buf ++ rest) ++ more)) → IsFed a c p r (n + count)
   fed_window a b c p q r n f taken fed =
       subst (λ (k : ℕ). IsFed a c p r (n + k)) front_count
       (fed_more a b c p q r n (take count buf) f taken (λ more. fed more ∙ ap (λ (l : List ℕ). q (l ++ more)) window_front))
 
 -- where something was left, something is, if only nothing
-pub still_open : (a b : Option (List ℕ)) (p q : List ℕ → Option Answer) (n : ℕ) → IsFed a b p q n → is_some a ≡ true → is_some b ≡ true
+pub still_open : (a b : Option (List ℕ)) (p q : List ℕ → Answer) (n : ℕ) → IsFed a b p q n → is_some a ≡ true → is_some b ≡ true
 still_open None b p q n f is = absurd (true≢false (sym is))
 still_open (Some x) None p q n f is = absurd f.taken
 still_open (Some x) (Some y) p q n f is = refl
 
-short_file : (b : Bool) (bytes : List ℕ) → length bytes ≤ 67108864 → file_answer b bytes ≡ text_answer b bytes
+short_file : (b : Bool) (base : Option (List ℕ)) (bytes : List ℕ) → length bytes ≤ 67108864 → file_answer b base bytes ≡ text_answer b base bytes
 unfolding file_answer
-short_file b bytes le = let low : nat_lt 67108864 (length bytes) ≡ false = grind (arith, nat_tests) in rw low refl
+short_file b base bytes le = let low : nat_lt 67108864 (length bytes) ≡ false = grind (arith, nat_tests) in rw low refl
 
-long_file : (b : Bool) (bytes : List ℕ) → 67108864 < length bytes → file_answer b bytes ≡ Some (Refuse L1 67108864)
+long_file : (b : Bool) (base : Option (List ℕ)) (bytes : List ℕ) → 67108864 < length bytes → file_answer b base bytes ≡ Refuse L1 67108864
 unfolding file_answer
-long_file b bytes lt = let high : nat_lt 67108864 (length bytes) ≡ true = grind (arith, nat_tests) in rw high refl
+long_file b base bytes lt = let high : nat_lt 67108864 (length bytes) ≡ true = grind (arith, nat_tests) in rw high refl
 
 -- all of a file was fed
-whole_answer : (xs : List ℕ) (left : Option (List ℕ)) (before now : List ℕ → Option Answer) → IsFedWhole (Some xs) left before now
-    → ((bytes : List ℕ) → before bytes ≡ Some (answer bytes)) → now [] ≡ file_answer true xs
-whole_answer xs None before now w is = absurd w.fed.taken
-whole_answer xs (Some ys) before now w is =
+whole_answer : (b : Bool) (base : Option (List ℕ)) (xs : List ℕ) (left : Option (List ℕ)) (before now : List ℕ → Answer) → IsFedWhole (Some xs) left before now
+    → ((bytes : List ℕ) → before bytes ≡ text_answer b base bytes) → now [] ≡ file_answer b base xs
+whole_answer b base xs None before now w is = absurd w.fed.taken
+whole_answer b base xs (Some ys) before now w is =
     let bytes = w.fed.bytes in
     let all : xs ≡ bytes = w.fed.taken ∙ ap (λ (l : List ℕ). bytes ++ l) w.end ∙ append-nil bytes in
     let le : length bytes ≤ 67108864 = omega (arith, w.short, w.fed.count) in
-    w.fed.fed [] ∙ is (bytes ++ []) ∙ ap (text_answer true) (append-nil bytes) ∙ sym (short_file true bytes le) ∙ ap (file_answer true) (sym all)
+    w.fed.fed [] ∙ is (bytes ++ []) ∙ ap (text_answer b base) (append-nil bytes) ∙ sym (short_file b base bytes le) ∙ ap (file_answer b base) (sym all)
 
-pub told : (start left : Option (List ℕ)) (before now : List ℕ → Option Answer) (r : Result Records ArchiveFault) → IsFedWhole start left before now
-    → ((bytes : List ℕ) → before bytes ≡ Some (answer bytes)) → IsTold r (now []) → IfSome start (λ xs. IsTold r (file_answer true xs))
-told None left before now r w is p = tt
-told (Some xs) left before now r w is p = subst (IsTold r) (whole_answer xs left before now w is) p
+pub told : (b : Bool) (base start left : Option (List ℕ)) (before now : List ℕ → Answer) (r : Result Records ArchiveFault) → IsFedWhole start left before now
+    → ((bytes : List ℕ) → before bytes ≡ text_answer b base bytes) → IsAnswer r (now []) → IfSome start (λ xs. IsAnswer r (file_answer b base xs))
+told b base None left before now r w is p = tt
+told b base (Some xs) left before now r w is p = subst (IsAnswer r) (whole_answer b base xs left before now w is) p
 
 -- what the reader says at its end
-pub finished : (a : Answer) (x : Result Records ReadRefusal) → IfOk x (λ r. a ≡ Read r) → IfErr x (λ e. IsRefusal e a) → IsTold (archived x) (Some a)
+pub finished : (a : Answer) (x : Result Records ReadRefusal) → IfOk x (λ r. a ≡ Read r) → IfErr x (λ e. IsRefusal e a) → IsAnswer (archived x) a
 finished a (Ok r) ok err = ok
 finished a (Err (reading.Refused f)) ok err = err
 finished a (Err reading.Memory) ok err = tt
 
-pub failed : (o : Option Answer) → IsTold (Err Failed) o
-failed None = tt
-failed (Some a) = tt
-
-pub starved : (o : Option Answer) → IsTold (Err Memory) o
-starved None = tt
-starved (Some a) = tt
+-- memory was wanting
+pub starved : (b : Bool) (base start : Option (List ℕ)) → IfSome start (λ xs. IsAnswer (Err Memory) (file_answer b base xs))
+starved b base None = tt
+starved b base (Some xs) = tt
 
 -- one byte past the limit was taken
-too_long : (b : Bool) (xs : List ℕ) (left : Option (List ℕ)) (f : Refusal) → IsLong (Some xs) left f → file_answer b xs ≡ Some (Refuse f.code f.at)
-too_long b xs None f t = absurd t.taken
-too_long b xs (Some ys) f t =
+too_long : (b : Bool) (base : Option (List ℕ)) (xs : List ℕ) (left : Option (List ℕ)) (f : Refusal) → IsLong (Some xs) left f → file_answer b base xs ≡ Refuse f.code f.at
+too_long b base xs None f t = absurd t.taken
+too_long b base xs (Some ys) f t =
     let len : length xs ≡ length t.bytes + length ys = ap (λ (l : List ℕ). length l) t.taken ∙ length-append t.bytes ys in
-    long_file b xs (omega (arith, len, t.count)) ∙ ap (λ (c : Code). Some (Refuse c 67108864)) (sym t.code) ∙ ap (λ (n : ℕ). Some (Refuse f.code n)) (sym t.at)
+    long_file b base xs (omega (arith, len, t.count)) ∙ ap (λ (c : Code). Refuse c 67108864) (sym t.code) ∙ ap (λ (n : ℕ). Refuse f.code n) (sym t.at)
 
-by_file : (b : Bool) (xs : List ℕ) (left : Option (List ℕ)) (e : ArchiveFault) → IsTakenLong (Some xs) left e → IsTold (Err e) (file_answer b xs)
-by_file b xs left Failed t = failed (file_answer b xs)
-by_file b xs left Memory t = starved (file_answer b xs)
-by_file b xs left (Refused f) t = subst (IsTold (Err (Refused f))) (sym (too_long b xs left f t)) refl
+by_file : (b : Bool) (base : Option (List ℕ)) (xs : List ℕ) (left : Option (List ℕ)) (e : ArchiveFault) → IsTakenLong (Some xs) left e → IsAnswer (Err e) (file_answer b base xs)
+by_file b base xs left Failed t = tt
+by_file b base xs left Memory t = tt
+by_file b base xs left (Refused f) t = subst (IsAnswer (Err (Refused f))) (sym (too_long b base xs left f t)) refl
 
-pub broken_off : (b : Bool) (start left : Option (List ℕ)) (e : ArchiveFault) → IsTakenLong start left e → IfSome start (λ xs. IsTold (Err e) (file_answer b xs))
-broken_off b None left e t = tt
-broken_off b (Some xs) left e t = by_file b xs left e t
+pub broken_off : (b : Bool) (base start left : Option (List ℕ)) (e : ArchiveFault) → IsTakenLong start left e → IfSome start (λ xs. IsAnswer (Err e) (file_answer b base xs))
+broken_off b base None left e t = tt
+broken_off b base (Some xs) left e t = by_file b base xs left e t
 
--- nothing is told of the text
-pub untold : (start left : Option (List ℕ)) (before now : List ℕ → Option Answer) (r : Result Records ArchiveFault) → IsFedWhole start left before now
-    → IfSome start (λ xs. IsTold r (file_answer false xs))
-untold None left before now r w = tt
-untold (Some xs) None before now r w = absurd w.fed.taken
-untold (Some xs) (Some ys) before now r w =
-    let all : xs ≡ w.fed.bytes = w.fed.taken ∙ ap (λ (l : List ℕ). w.fed.bytes ++ l) w.end ∙ append-nil w.fed.bytes in
-    let len : length xs ≡ length w.fed.bytes = ap (λ (l : List ℕ). length l) all in
-    subst (IsTold r) (sym (short_file false xs (omega (arith, len, w.short, w.fed.count)))) tt
-
-by_held : (held start : Option (List ℕ)) (b : Bool) (r : Result Records ArchiveFault) → is_some held ≡ true → start ≡ held → IfSome start (λ xs. IsTold r (file_answer b xs)) → AnswersBytes b held r
-by_held None start b r is same p = absurd (true≢false (sym is))
-by_held (Some xs) start b r is same p = subst (λ (o : Option (List ℕ)). IfSome o (λ ys. IsTold r (file_answer b ys))) same p
+by_held : (held start base : Option (List ℕ)) (b : Bool) (r : Result Records ArchiveFault) → is_some held ≡ true → start ≡ held → IfSome start (λ xs. IsAnswer r (file_answer b base xs))
+    → AnswersBytes b base held r
+by_held None start base b r is same p = absurd (true≢false (sym is))
+by_held (Some xs) start base b r is same p = subst (λ (o : Option (List ℕ)). IfSome o (λ ys. IsAnswer r (file_answer b base ys))) same p
 
 -- of a file that was opened
-pub of_opened : (o : Option Files) (name : List ℕ) (start : Option (List ℕ)) (b : Bool) (r : Result Records ArchiveFault) → b ≡ is_ntriples name → IsOpened o name start
-    → IfSome start (λ xs. IsTold r (file_answer b xs)) → Answers o name r
-of_opened None name start b r is opened p = tt
-of_opened (Some files) name start b r is opened p = by_held (files name) start (is_ntriples name) r opened.0 opened.1
-    (subst (λ (t : Bool). IfSome start (λ xs. IsTold r (file_answer t xs))) is p)
+pub of_opened : (o : Option Files) (name : List ℕ) (start base : Option (List ℕ)) (b : Bool) (r : Result Records ArchiveFault) → b ≡ is_ntriples name → IsOpened o name start
+    → IfSome start (λ xs. IsAnswer r (file_answer b base xs)) → Answers o base name r
+of_opened None name start base b r is opened p = tt
+of_opened (Some files) name start base b r is opened p = by_held (files name) start base (is_ntriples name) r opened.0 opened.1
+    (subst (λ (t : Bool). IfSome start (λ xs. IsAnswer r (file_answer t base xs))) is p)
 
-not_held : (b : Bool) (held : Option (List ℕ)) → AnswersBytes b held (Err Failed)
-not_held b None = tt
-not_held b (Some xs) = failed (file_answer b xs)
+not_held : (b : Bool) (base held : Option (List ℕ)) → AnswersBytes b base held (Err Failed)
+not_held b base None = tt
+not_held b base (Some xs) = tt
 
 -- of a file that was not
-pub not_opened : (o : Option Files) (name : List ℕ) → Answers o name (Err Failed)
-not_opened None name = tt
-not_opened (Some files) name = not_held (is_ntriples name) (files name)
+pub not_opened : (o : Option Files) (base : Option (List ℕ)) (name : List ℕ) → Answers o base name (Err Failed)
+not_opened None base name = tt
+not_opened (Some files) base name = not_held (is_ntriples name) base (files name)
 
 -- where feeding broke off
 pub long_out : (start left : Option (List ℕ)) (e : ArchiveFault) → IsTakenLong start left e → IsOut start left (Err e)

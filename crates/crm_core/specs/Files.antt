@@ -8,7 +8,8 @@ use Rattle.rdf_terms.specs.declared.terms.Refusal.{Refusal}
 use Rattle.rdf_terms.specs.declared.triples.Records.{Records}
 use Rattle.ntriples_reader.specs.Answers.{Answer}
 use Rattle.ntriples_reader.specs.Answers.Answer.{Refuse, Read}
-use Rattle.ntriples_reader.specs.Feeding.{answer}
+use Rattle.ntriples_reader.specs.Feeding as ntriples
+use Rattle.turtle_reader.specs.Answers as turtle
 use Rattle.ntriples_reader.specs.declared.lines.ReadRefusal.{ReadRefusal}
 use Rattle.ntriples_reader.specs.declared.lines.ReadRefusal.TheVariants as reading
 use Rattle.crm_core.specs.declared.status.ArchiveFault.{ArchiveFault}
@@ -18,14 +19,14 @@ use Rattle.crm_core.specs.declared.status.ArchiveFault.TheVariants.{Failed, Refu
 abbrev pub is_ntriples : List ℕ → Bool
 is_ntriples name = ends_with nat_eq name (codes ".nt")
 
--- the answer to N-Triples; none is told yet of Turtle
-abbrev pub text_answer : Bool → List ℕ → Option Answer
-text_answer true bytes = Some (answer bytes)
-text_answer false bytes = None
+-- the answer to N-Triples, or to Turtle with its base
+abbrev pub text_answer : Bool → Option (List ℕ) → List ℕ → Answer
+text_answer true base bytes = ntriples.answer bytes
+text_answer false base bytes = turtle.answer base bytes
 
 -- That a file is too long counts before all else.
-unfoldable pub file_answer : Bool → List ℕ → Option Answer
-file_answer ntriples bytes = if nat_lt 67108864 (length bytes) then Some (Refuse L1 67108864) else text_answer ntriples bytes
+unfoldable pub file_answer : Bool → Option (List ℕ) → List ℕ → Answer
+file_answer is_ntriples base bytes = if nat_lt 67108864 (length bytes) then Refuse L1 67108864 else text_answer is_ntriples base bytes
 
 -- The records are those of the answer, and so is the refusal.
 abbrev pub IsAnswer : Result Records ArchiveFault → Answer → Type 0
@@ -34,10 +35,6 @@ IsAnswer (Err (Refused f)) a = a ≡ Refuse f.code f.at
 IsAnswer (Err Failed) a = ⊤
 IsAnswer (Err Memory) a = ⊤
 
-abbrev pub IsTold : Result Records ArchiveFault → Option Answer → Type 0
-IsTold r None = ⊤
-IsTold r (Some a) = IsAnswer r a
-
 -- what a reader says, as what is said of a file
 abbrev pub archived : Result Records ReadRefusal → Result Records ArchiveFault
 archived (Ok r) = Ok r
@@ -45,27 +42,27 @@ archived (Err (reading.Refused f)) = Err (Refused f)
 archived (Err reading.Memory) = Err Memory
 
 -- of a name that is held, with its bytes; no other is read or refused
-abbrev pub AnswersBytes : Bool → Option (List ℕ) → Result Records ArchiveFault → Type 0
-AnswersBytes ntriples (Some bytes) r = IsTold r (file_answer ntriples bytes)
-AnswersBytes ntriples None (Ok r) = ⊥
-AnswersBytes ntriples None (Err (Refused f)) = ⊥
-AnswersBytes ntriples None (Err Failed) = ⊤
-AnswersBytes ntriples None (Err Memory) = ⊤
+abbrev pub AnswersBytes : Bool → Option (List ℕ) → Option (List ℕ) → Result Records ArchiveFault → Type 0
+AnswersBytes is_ntriples base (Some bytes) r = IsAnswer r (file_answer is_ntriples base bytes)
+AnswersBytes is_ntriples base None (Ok r) = ⊥
+AnswersBytes is_ntriples base None (Err (Refused f)) = ⊥
+AnswersBytes is_ntriples base None (Err Failed) = ⊤
+AnswersBytes is_ntriples base None (Err Memory) = ⊤
 
 -- of a shelf that tells its files
-abbrev pub Answers : Option Files → List ℕ → Result Records ArchiveFault → Type 0
-Answers None name r = ⊤
-Answers (Some files) name r = AnswersBytes (is_ntriples name) (files name) r
+abbrev pub Answers : Option Files → Option (List ℕ) → List ℕ → Result Records ArchiveFault → Type 0
+Answers None base name r = ⊤
+Answers (Some files) base name r = AnswersBytes (is_ntriples name) base (files name) r
 
 -- n bytes were taken from the shelf and fed to the reader
-pub record IsFed (start left : Option (List ℕ)) (before now : List ℕ → Option Answer) (n : ℕ) : Type 0 where
+pub record IsFed (start left : Option (List ℕ)) (before now : List ℕ → Answer) (n : ℕ) : Type 0 where
   pub bytes : List ℕ
   pub count : length bytes ≡ n
   pub taken : Consumes start left bytes
   pub fed : (more : List ℕ) → now more ≡ before (bytes ++ more)
 
 -- and nothing is left
-pub record IsFedWhole (start left : Option (List ℕ)) (before now : List ℕ → Option Answer) : Type 0 where
+pub record IsFedWhole (start left : Option (List ℕ)) (before now : List ℕ → Answer) : Type 0 where
   pub count : ℕ
   pub short : count ≤ 67108864
   pub end : IsAtEnd left

@@ -1,10 +1,11 @@
 // A file that was read.
-ghost use Rattle.std.specs.Prelude.{◌≡◌, ◌↔◌, ◌≤◌, true, false, IfSome, IsTrue, IsErrOf, is_some};
+ghost use Rattle.std.specs.Prelude.{◌≡◌, ◌↔◌, ◌≤◌, ℕ, List, Option, true, false, IfSome, IsTrue, IsErrOf, is_some};
+ghost use Rattle.std.specs.Option.{option_map};
 ghost use Rattle.iri_resolve.specs.Splitting.{has_scheme};
 ghost use Rattle.crm_outside.specs.Causes.{Rose};
 ghost use Rattle.crm_outside.specs.Shelves.{held};
 ghost use Rattle.crm_core.specs.Files as spec;
-ghost use Rattle.crm_core.specs.Files.{Answers, IsOut, IsReadOut, IsTold, file_answer};
+ghost use Rattle.crm_core.specs.Files.{Answers, IsAnswer, IsOut, IsReadOut, file_answer};
 
 use crate::ArchiveFault;
 use crate::feeding::feed_file;
@@ -41,7 +42,7 @@ fn records_of(read: Result<Records, ReadRefusal>) -> Result<Archive, ArchiveFaul
 
 // Reads the open file as N-Triples.
 fn read_ntriples<S: Shelf>(alloc: Global, shelf: &mut S) -> Result<Archive, ArchiveFault>
-    ensures answer { IfSome (S.left shelf.old) (λ bytes. IsTold result (file_answer true bytes)) }
+    ensures answer { (base : Option (List ℕ)) → IfSome (S.left shelf.old) (λ bytes. IsAnswer result (file_answer true base bytes)) }
     ensures out { IsOut (S.left shelf.old) (S.left shelf.new) result }
     ensures failed { IsErrOf result ArchiveFault.Failed → Rose (S.faults shelf.old) (S.faults shelf.new) }
     ensures open { S.honest shelf.old ≡ true → is_some (S.left shelf.old) ≡ true → IsErrOf result ArchiveFault.Failed → ⊥ }
@@ -72,7 +73,7 @@ fn read_turtle<S: Shelf>(
     base: Option<&str>,
 ) -> Result<Archive, ArchiveFault>
     requires { IfSome base (λ b. IsTrue (has_scheme b.now)) }
-    ensures answer { IfSome (S.left shelf.old) (λ bytes. IsTold result (file_answer false bytes)) }
+    ensures answer { IfSome (S.left shelf.old) (λ bytes. IsAnswer result (file_answer false (option_map (λ b. b.now) base.entry) bytes)) }
     ensures out { IsOut (S.left shelf.old) (S.left shelf.new) result }
     ensures failed { IsErrOf result ArchiveFault.Failed → Rose (S.faults shelf.old) (S.faults shelf.new) }
     ensures open { S.honest shelf.old ≡ true → is_some (S.left shelf.old) ≡ true → IsErrOf result ArchiveFault.Failed → ⊥ }
@@ -102,7 +103,7 @@ impl Archive {
         base: Option<&str>,
     ) -> Result<Archive, ArchiveFault>
         requires { IfSome base (λ b. IsTrue (has_scheme b.now)) }
-        ensures answer { Answers (S.files shelf.old) name.now result }
+        ensures answer { Answers (S.files shelf.old) (option_map (λ b. b.now) base.entry) name.now result }
         // nothing is left of the file, or one byte past the limit of length was taken, unless a call failed or memory was wanting
         ensures out { IsReadOut (S.files shelf.old) name.now (S.left shelf.new) result }
         ensures failed { IsErrOf result ArchiveFault.Failed → Rose (S.faults shelf.old) (S.faults shelf.new) }

@@ -1,8 +1,9 @@
 // A file fed to a reader in windows.
-ghost use Rattle.std.specs.Prelude.{◌≡◌, ℕ, ◌+◌, ◌^◌, ◌<◌, ◌≤◌, List, ◌++◌, true, length, Option, None, Some, OnOk, IfOk, IfErr, IsErrOf, is_some};
+ghost use Rattle.std.specs.Prelude.{◌≡◌, ℕ, ◌+◌, ◌^◌, ◌<◌, ◌≤◌, List, ◌++◌, true, length, OnOk, IfOk, IfErr, IsErrOf, is_some};
 ghost use Rattle.crm_outside.specs.Causes.{Rose};
 ghost use Rattle.ntriples_reader.specs.Answers.{Answer};
-ghost use Rattle.ntriples_reader.specs.Feeding.{promised as nt_promised};
+ghost use Rattle.ntriples_reader.specs.Feeding as ntriples;
+ghost use Rattle.turtle_reader.specs.Reading as turtle;
 ghost use Rattle.crm_core.specs.Files.{IsFedWhole, IsTakenLong};
 
 use crate::ArchiveFault;
@@ -17,8 +18,8 @@ pub(crate) trait Feeds {
     /// How many bytes were fed.
     ghost count: { Self → ℕ };
 
-    /// The answer where these bytes are still fed, if the reader tells it.
-    ghost promised: { Self → List ℕ → Option Answer };
+    /// The answer where these bytes are still fed.
+    ghost promised: { Self → List ℕ → Answer };
 
     /// Takes the next piece.
     fn feed_piece(&mut self, piece: &[u8]) -> Result<(), AllocError>
@@ -30,7 +31,7 @@ pub(crate) trait Feeds {
 impl Feeds for NtReader {
     ghost count = { λ r. r.fed.count };
 
-    ghost promised = { λ r more. Some (nt_promised r more) };
+    ghost promised = { λ r more. ntriples.promised r more };
 
     fn feed_piece(&mut self, piece: &[u8]) -> Result<(), AllocError> {
         self.feed(piece)
@@ -40,7 +41,7 @@ impl Feeds for NtReader {
 impl Feeds for TurtleReader {
     ghost count = { λ r. r.fed.count };
 
-    ghost promised = { λ r more. None };
+    ghost promised = { λ r more. turtle.promised r more };
 
     fn feed_piece(&mut self, piece: &[u8]) -> Result<(), AllocError> {
         self.feed(piece)

@@ -1,10 +1,9 @@
 -- The sample: records made from a number, and what is printed of them.
-use Rattle.std.specs.Prelude.{zero, suc, ℕ, ◌+◌, ◌%◌, true, ◌==◌, ◌∷◌, ◌++◌, max, nat_lt, Option, None, Some, is_none, if◌then◌else◌, List, [], length, codes}
+use Rattle.std.specs.Prelude.{zero, suc, ℕ, ◌+◌, ◌%◌, true, ◌==◌, ◌∷◌, ◌++◌, max, nat_lt, None, is_none, if◌then◌else◌, List, [], length, codes}
 use Rattle.std.specs.List.{flat_map, fold}
 use Rattle.std.specs.Fmt.{decimal}
 use Rattle.rdf_terms.specs.declared.terms.Triple.{Triple}
 use Rattle.rdf_terms.specs.declared.triples.Records.{Records}
-use Rattle.rdf_terms.specs.declared.terms.Code.TheVariants.{L1}
 use Rattle.crm_outside.specs.Memory.{ShelfState}
 use Rattle.ntriples_reader.specs.Answers.{Answer}
 use Rattle.ntriples_reader.specs.Answers.Answer.{Refuse, Read}
@@ -122,12 +121,11 @@ sample_found n r = record {
 abbrev pub records_report : ℕ → Records → Report
 records_report n r = within_limits (findings_from r) (sample_found n r)
 
--- by the answer to the file; N-Triples always have one
-abbrev pub answer_report : ℕ → Option Answer → Report
-answer_report n None = refusal_report (record { code = L1; at = 67108864 })
-answer_report n (Some (Refuse code at)) = refusal_report (record { code = code; at = at })
-answer_report n (Some (Read r)) = records_report n r
+-- by the answer to the file
+abbrev pub answer_report : ℕ → Answer → Report
+answer_report n (Refuse code at) = refusal_report (record { code = code; at = at })
+answer_report n (Read r) = records_report n r
 
 -- what is printed of the sample of n contexts
 abbrev pub sample_report : ℕ → Report
-sample_report n = answer_report n (file_answer true (sample_file n))
+sample_report n = answer_report n (file_answer true None (sample_file n))

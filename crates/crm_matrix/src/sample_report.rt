@@ -1,11 +1,11 @@
 // The report of a sample.
-ghost use Rattle.std.specs.Prelude.{◌≡◌, ◌++◌, ◌≤◌, ◌<◌, ◌^◌, true, length, IfOk, OnOk, IsErrOf, is_none};
+ghost use Rattle.std.specs.Prelude.{◌≡◌, ◌++◌, ◌≤◌, ◌<◌, ◌^◌, true, None, length, IfOk, OnOk, IsErrOf, is_none};
 ghost use Rattle.order_laws.specs.Chains.{HasCycle};
 ghost use Rattle.order_closure.specs.Closures.{IsClosureOf};
 ghost use Rattle.harris_matrix.specs.Cells.{AreExtents};
 ghost use Rattle.crm_outside.specs.Printing.{Prints};
 ghost use Rattle.reason_report.specs.Reason.{cycle_of};
-ghost use Rattle.crm_core.specs.Files.{IsTold, file_answer};
+ghost use Rattle.crm_core.specs.Files.{IsAnswer, file_answer};
 ghost use Rattle.crm_core.specs.Reports.{Tells, Writes};
 ghost use Rattle.crm_matrix.specs.MatrixTexts.{status_of};
 ghost use Rattle.crm_matrix.specs.Samples.{sample_report, sample_file as sample_bytes};
@@ -48,7 +48,7 @@ fn shelf_of(alloc: Global, bytes: Vec<u8>) -> Result<MemShelf, AllocError>
 
 // Makes the sample and reads it as a file is read.
 fn read_sample(alloc: Global, n: u32) -> Result<Archive, ArchiveFault>
-    ensures told { IsTold result (file_answer true (sample_bytes n)) }
+    ensures told { IsAnswer result (file_answer true None (sample_bytes n)) }
     ensures failed { IsErrOf result ArchiveFault.Failed → ⊥ }
 {
     let Ok(bytes) = sample_file(alloc, n) else {

@@ -1,15 +1,14 @@
-use Rattle.std.proofs.Common.{ap, Some, true}
-use Rattle.ntriples_reader.specs.Answers.{Answer}
+use Rattle.std.proofs.Common.{true}
 use Rattle.crm_core.proofs.Reading.{told, finished, broken_off, long_out, whole_out}
 use Rattle.crm_core.proofs.archive.read_ntriples.Goals as goal
 
 pub returns-in-Err-clause-answer : goal.returns-in-Err-clause-answer
-returns-in-Err-clause-answer g c = broken_off true _ _ _ c.in-Err.ensures.long
+returns-in-Err-clause-answer g c = λ base. broken_off true base _ _ _ c.in-Err.ensures.long
 
 pub returns-clause-answer : goal.returns-clause-answer
-returns-clause-answer g c =
+returns-clause-answer g c = λ base.
     rw c.records_of.ensures
-    (told _ _ _ _ _ c.in-Ok-feed_file.ensures.whole (λ bytes. ap (λ (a : Answer). Some a) (c.in-Ok.ensures.answer bytes)) (finished _ _ c.finish.ensures.ok c.finish.ensures.refused))
+    (told true base _ _ _ _ _ c.in-Ok-feed_file.ensures.whole c.in-Ok.ensures.answer (finished _ _ c.finish.ensures.ok c.finish.ensures.refused))
 
 pub returns-in-Err-clause-out : goal.returns-in-Err-clause-out
 returns-in-Err-clause-out g c = long_out _ _ _ c.in-Err.ensures.long

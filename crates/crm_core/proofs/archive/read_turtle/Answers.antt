@@ -1,12 +1,14 @@
 use Rattle.std.proofs.Common.{false}
-use Rattle.crm_core.proofs.Reading.{untold, broken_off, long_out, whole_out}
+use Rattle.crm_core.proofs.Reading.{told, finished, broken_off, long_out, whole_out}
 use Rattle.crm_core.proofs.archive.read_turtle.Goals as goal
 
 pub returns-in-Err-clause-answer : goal.returns-in-Err-clause-answer
-returns-in-Err-clause-answer g c = broken_off false _ _ _ c.in-Err.ensures.long
+returns-in-Err-clause-answer g c = broken_off false _ _ _ _ c.in-Err.ensures.long
 
 pub returns-clause-answer : goal.returns-clause-answer
-returns-clause-answer g c = untold _ _ _ _ _ c.in-Ok-feed_file.ensures.whole
+returns-clause-answer g c =
+    rw c.records_of.ensures
+    (told false _ _ _ _ _ _ c.in-Ok-feed_file.ensures.whole c.in-Ok.ensures.answer (finished _ _ c.finish.ensures.ok c.finish.ensures.refused))
 
 pub returns-in-Err-clause-out : goal.returns-in-Err-clause-out
 returns-in-Err-clause-out g c = long_out _ _ _ c.in-Err.ensures.long

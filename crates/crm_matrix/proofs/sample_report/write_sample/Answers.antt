@@ -1,15 +1,15 @@
-use Rattle.std.proofs.Common.{sym, subst, true}
+use Rattle.std.proofs.Common.{sym, subst, None, true}
 use Rattle.rdf_terms.specs.declared.triples.Records.{Records}
 use Rattle.crm_core.specs.Files.{file_answer}
 use Rattle.crm_core.specs.Reports.{Report, Writes, told}
 use Rattle.crm_matrix.specs.Samples.{sample_file, records_report}
 use Rattle.crm_core.proofs.Limits.{told_writes}
-use Rattle.crm_matrix.proofs.SampleFiles.{is_answered, read_report, refused_report}
+use Rattle.crm_matrix.proofs.SampleFiles.{read_report, refused_report}
 use Rattle.crm_matrix.proofs.sample_report.write_sample.Goals as goal
 
 pub returns-in-Ok : goal.returns-in-Ok
 returns-in-Ok g c =
-    let is = read_report c.args.n c.in-Ok.archive (file_answer true (sample_file c.args.n)) (is_answered (sample_file c.args.n)) c.in-Ok.ensures.told in
+    let is = read_report c.args.n c.in-Ok.archive (file_answer true None (sample_file c.args.n)) c.in-Ok.ensures.told in
     rw c.told.ensures
     (subst (λ (r : Report). Writes g.W.Sink.written g.W.Sink.faults g.W.Sink.sure c.args.out.now c.tell_sample.new.out r (told c.tell_sample.result)) (sym is)
     (subst (λ (r : Records). Writes g.W.Sink.written g.W.Sink.faults g.W.Sink.sure c.args.out.now c.tell_sample.new.out (records_report c.args.n r) (told c.tell_sample.result)) c.records.ensures
@@ -18,5 +18,5 @@ returns-in-Ok g c =
 pub returns-in-Err-Refused : goal.returns-in-Err-Refused
 returns-in-Err-Refused g c =
     let told = rw c.in-Err-Refused.field-0-is at c.in-Err-Refused.ensures.told in
-    let is = refused_report c.args.n c.in-Err-Refused.refusal (file_answer true (sample_file c.args.n)) (is_answered (sample_file c.args.n)) told in
+    let is = refused_report c.args.n c.in-Err-Refused.refusal (file_answer true None (sample_file c.args.n)) told in
     subst (λ (r : Report). Writes g.W.Sink.written g.W.Sink.faults g.W.Sink.sure c.args.out.now c.write_refusal.new.out r c.write_refusal.result) (sym is) c.write_refusal.ensures
