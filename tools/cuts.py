@@ -24,9 +24,9 @@ def waiting(pipe):
     return count[0]
 
 
-def run(program, pieces):
-    """Returns the status and the output of `convert` over the pieces."""
-    child = subprocess.Popen([program, "convert", "-"], stdin=subprocess.PIPE, stdout=subprocess.PIPE, bufsize=0)
+def run(words, pieces, folder=None):
+    """Returns the status and the output of a command, in the folder, that is handed the pieces as standard input."""
+    child = subprocess.Popen(words, stdin=subprocess.PIPE, stdout=subprocess.PIPE, bufsize=0, cwd=folder)
     try:
         for piece in pieces:
             child.stdin.write(piece)
@@ -46,12 +46,13 @@ def check(program, name):
     """Returns how many cuttings of the file were tried, and names those that print something else."""
     with open(name, "rb") as file:
         text = file.read()
-    whole = run(program, [text])
+    words = [program, "convert", "-"]
+    whole = run(words, [text])
     cuttings = [(f"pieces of {size}", cut(text, size)) for size in (1, 2, 3, 7)]
     if len(text) <= SMALL:
         cuttings += [(f"cut at {at}", [text[:at], text[at:]]) for at in range(1, len(text))]
-    bad = [said for said, pieces in cuttings if run(program, pieces) != whole]
-    if whole[0] == 0 and run(program, [whole[1]]) != whole:
+    bad = [said for said, pieces in cuttings if run(words, pieces) != whole]
+    if whole[0] == 0 and run(words, [whole[1]]) != whole:
         bad.append("its own output")
     for said in bad:
         print(f"{name}: {said}: other output")
