@@ -4,7 +4,7 @@ use Rattle.std.specs.Prelude.{◌||◌}
 use Rattle.std.proofs.lemmas.Bool.{cases_Bool, cases_eq}
 use Rattle.std.proofs.lemmas.List.{length_push}
 use Rattle.order_closure.specs.declared.links.Link.{Link}
-use Rattle.order_closure.specs.declared.search.Pair.{Pair}
+use Rattle.order_closure.specs.Search.{Pair}
 use Rattle.order_closure.specs.Links.{IsRoute, shows, link_at}
 use Rattle.order_closure.specs.Search.{place, beyond}
 use Rattle.chain_certificate.specs.declared.tree.Node.{Node}

@@ -4,7 +4,7 @@ use Rattle.std.specs.Prelude.{◌||◌, ◌⊎◌}
 use Rattle.std.proofs.lemmas.Bool.{cases_Bool, cases_eq, cases_lt}
 use Rattle.std.proofs.lemmas.List.{length_push, get_or_append_left, length-replicate, get_or-replicate, get_or_past, take_at}
 use Rattle.order_closure.specs.declared.links.Link.{Link}
-use Rattle.order_closure.specs.declared.search.Pair.{Pair}
+use Rattle.order_closure.specs.Search.{Pair}
 use Rattle.order_closure.specs.Next.{IsNext}
 use Rattle.order_closure.specs.Links.{link_at, low_of}
 use Rattle.order_closure.specs.Search.{place, beyond}

@@ -4,7 +4,7 @@ use Rattle.std.proofs.lemmas.Bool.{cases_eq}
 use Rattle.order_laws.specs.Chains.{order_at}
 use Rattle.order_core.specs.Sets.{Orders, IsSet}
 use Rattle.order_closure.specs.declared.links.Link.{Link}
-use Rattle.order_closure.specs.declared.search.Pair.{Pair}
+use Rattle.order_closure.specs.Search.{Pair}
 use Rattle.order_closure.specs.Edges.{EdgeLists, IsEdgesOf}
 use Rattle.order_closure.specs.Search.{place}
 use Rattle.order_closure.proofs.Linking.{number_within}

@@ -1,7 +1,7 @@
 -- The tree of a search: each node but the first has a parent before it and the order taken from there.
 use Rattle.std.specs.Prelude.{zero, suc, ◌≡◌, ◌<◌, ◌≤◌, ◌+◌, ◌*◌, ◌==◌, ◌⊎◌, ℕ, Bool, false, cond, List, [], ◌∷◌, ◌++◌, length, slice_index_or, slice_set}
 use Rattle.order_closure.specs.declared.links.Link.{Link}
-use Rattle.order_closure.specs.declared.search.Pair.{Pair}
+use Rattle.order_closure.specs.Search.{Pair}
 use Rattle.order_closure.specs.Links.{IsRoute, shows, link_at}
 use Rattle.order_closure.specs.Search.{place, beyond}
 use Rattle.chain_certificate.specs.declared.tree.Node.{Node}

@@ -2,8 +2,6 @@
 #![tactic(auto)]
 
 mod routes;
-#[cfg(test)]
-mod tests;
 mod tree;
 
 pub use routes::{Chain, LastStep, Routes, cycle};

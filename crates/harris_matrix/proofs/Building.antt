@@ -9,7 +9,7 @@ use Rattle.order_laws.specs.declared.Reach.{Reach}
 use Rattle.order_laws.specs.Closure.{reach_between}
 use Rattle.harris_matrix.specs.declared.cells.Cell.{Cell}
 use Rattle.harris_matrix.specs.declared.cells.CellPair.{CellPair}
-use Rattle.harris_matrix.specs.Cells.{AreExtents, members, comes_before}
+use Rattle.harris_matrix.specs.Cells.{members, comes_before}
 use Rattle.harris_matrix.specs.Covers.{all_covers, starts_of}
 use Rattle.harris_matrix.specs.Levels.{IsLevel, AreLevels, IsOrdering}
 use Rattle.harris_matrix.specs.Matrices.{IsMatrixOf, cells_below, no_cell, least_of, is_before}
@@ -17,23 +17,7 @@ use Rattle.harris_matrix.specs.Walks.{IsLaidOut}
 use Rattle.harris_matrix.proofs.Pairs.{laid_out}
 use Rattle.harris_matrix.proofs.Agreeing.{all_covers_same, level_same}
 
--- what is kept of extents is of extents, and no more than they
-pub kept_extents : (extents : ℕ) (test : ℕ → Bool) (xs : List ℕ) → AreExtents extents xs → AreExtents extents (filter test xs)
-kept_extents extents test [] h k l = absurd (omega arith)
-kept_extents extents test (x ∷ xs) h k l = elim (cases_Bool (test x)) [
-  | inl yea ↦ (let e : filter test (x ∷ xs) ≡ x ∷ filter test xs = rw yea refl in
-      let P : List ℕ → Type 0 = λ ys. get_or ys k 0 < extents in
-      subst P (sym e) (first x xs k h (kept_extents extents test xs (λ i w. h (suc i) (omega arith))) (omega (arith, ap length e))))
-  | inr nay ↦ (let e : filter test (x ∷ xs) ≡ filter test xs = rw nay refl in
-      let P : List ℕ → Type 0 = λ ys. get_or ys k 0 < extents in
-      subst P (sym e) (kept_extents extents test xs (λ i w. h (suc i) (omega arith)) k (omega (arith, ap length e))))
-]
-  where
-    first : (x : ℕ) (xs : List ℕ) (k : ℕ) → AreExtents extents (x ∷ xs) → AreExtents extents (filter test xs) → k < length (x ∷ filter test xs) →
-        get_or (x ∷ filter test xs) k 0 < extents
-    first x xs zero h rest w = h 0 (omega arith)
-    first x xs (suc k) h rest w = rest k (omega arith)
-
+-- what is kept is no more than there was
 pub kept_few : (test : ℕ → Bool) (xs : List ℕ) → length (filter test xs) ≤ length xs
 kept_few test [] = omega arith
 kept_few test (x ∷ xs) = elim (cases_Bool (test x)) [

@@ -9,9 +9,11 @@ use Rattle.order_laws.specs.declared.Reach.{Reach}
 use Rattle.order_laws.specs.declared.Reach.TheVariants.{None as Nothing, Le, Lt}
 use Rattle.order_laws.specs.Chains.{order_at}
 use Rattle.order_laws.specs.Tables.{is_known, is_strict, IsOrderSet, IsOrderly}
-use Rattle.harris_matrix.specs.Cells.{AreExtents, ends_before, comes_before}
+use Rattle.order_core.specs.Sets.{AreExtents}
+use Rattle.harris_matrix.specs.Cells.{ends_before, comes_before}
 use Rattle.harris_matrix.specs.Rows.{IsStrictOrder, IsMarked, mark_at}
 use Rattle.harris_matrix.proofs.Agreeing.{order_same}
+use Rattle.harris_matrix.proofs.Striking.{or_left}
 
 module _ (orders : List Order) (extents : ℕ) (dates : List ℤ) (table : Point → Point → Reach)
     (set : IsOrderSet orders extents dates) (orderly : IsOrderly orders extents (length dates) table) where
@@ -28,8 +30,11 @@ module _ (orders : List Order) (extents : ℕ) (dates : List ℤ) (table : Point
   strict_is_known Lt e = refl
 
   pub strict_order : (least : List ℕ) → AreExtents extents least → IsStrictOrder (comes_before table least) (length least)
-  strict_order least range = record { joins = joins; never = never }
+  strict_order least extents_of = record { joins = joins; never = never }
     where
+      range : (k : ℕ) → k < length least → get_or least k 0 < extents
+      range k h = extents_of k 0 h
+
       joins : (i j k : ℕ) → i < length least → j < length least → k < length least →
           comes_before table least i j ≡ true → comes_before table least j k ≡ true → comes_before table least i k ≡ true
       joins i j k h l w e f =
@@ -52,8 +57,17 @@ module _ (orders : List Order) (extents : ℕ) (dates : List ℤ) (table : Point
                 absurd (true≢false (sym s ∙ ap is_strict (orderly.itself (End a) (range i h)))))
           ]
 
-  pub rows_order : (count : ℕ) (marks : List Bool) (least : List ℕ) → count ≡ length least → IsMarked (ends_before table) least (length least) marks →
+  -- what starts behind a does not start before or with it
+  pub starts_apart : (a b : ℕ) → a < extents → b < extents → is_strict (table (Start a) (Start b)) ≡ true → is_known (table (Start b) (Start a)) ≡ false
+  starts_apart a b h l e = elim (cases_Bool (is_known (table (Start b) (Start a)))) [
+    | inr nay ↦ nay
+    | inl yea ↦ (let s = orderly.joins_strictly (Start a) (Start b) (Start a) h l h (strict_is_known (table (Start a) (Start b)) e) yea
+        (or_left (is_strict (table (Start a) (Start b))) (is_strict (table (Start b) (Start a))) e) in
+        absurd (true≢false (sym s ∙ ap is_strict (orderly.itself (Start a) h))))
+  ]
+
+  pub rows_order : (count : ℕ) (marks least : List ℕ) → count ≡ length least → IsMarked (ends_before table) least (length least) marks →
       AreExtents extents least → IsStrictOrder (mark_at count marks) count
   rows_order count marks least size m range =
       let P : ℕ → Type 0 = λ n. IsStrictOrder (mark_at n marks) n in
-      subst P (sym size) (order_same (length least) (mark_at (length least) marks) (comes_before table least) (λ i j h l. m.each i j h l) (strict_order least range))
+      subst P (sym size) (order_same (length least) (mark_at (length least) marks) (comes_before table least) (λ i j h l. m.each i j h h l) (strict_order least range))

@@ -49,16 +49,16 @@ some_found (suc n) test e = elim (either (some_below n test) (test n) e) [
 ]
 
 -- what is marked and struck once the first p cells are done
-pub record IsMarking (before : ℕ → ℕ → Bool) (n : ℕ) (cells : List ℕ) (i p : ℕ) (struck marks : List Bool) : Type 0 where
-  pub shown : (j : ℕ) → j < n → get_or struck j false ≡ true →
-      (k : ℕ) × ((k < n) × ((before i k ≡ true) × ((before k j ≡ true) × ((m : ℕ) → m < n → before k m ≡ true → get_or struck m false ≡ true))))
+pub record IsMarking (before : ℕ → ℕ → Bool) (n : ℕ) (cells : List ℕ) (i p : ℕ) (struck : ℕ → Bool) (marks : List Bool) : Type 0 where
+  pub shown : (j : ℕ) → j < n → struck j ≡ true →
+      (k : ℕ) × ((k < n) × ((before i k ≡ true) × ((before k j ≡ true) × ((m : ℕ) → m < n → before k m ≡ true → struck m ≡ true))))
   pub passed : (q : ℕ) → q < p → before i (get_or cells q 0) ≡ true →
-      (m : ℕ) → m < n → before (get_or cells q 0) m ≡ true → get_or struck m false ≡ true
+      (m : ℕ) → m < n → before (get_or cells q 0) m ≡ true → struck m ≡ true
   pub right : (q : ℕ) → q < p → get_or marks (get_or cells q 0) false ≡ covers before n i (get_or cells q 0)
   pub sound : (j : ℕ) → j < n → get_or marks j false ≡ true → covers before n i j ≡ true
 
-pub marking_begins : (before : ℕ → ℕ → Bool) (n : ℕ) (cells : List ℕ) (i : ℕ) (struck marks : List Bool) →
-    ((j : ℕ) → j < n → get_or struck j false ≡ false) → ((j : ℕ) → j < n → get_or marks j false ≡ false) →
+pub marking_begins : (before : ℕ → ℕ → Bool) (n : ℕ) (cells : List ℕ) (i : ℕ) (struck : ℕ → Bool) (marks : List Bool) →
+    ((j : ℕ) → j < n → struck j ≡ false) → ((j : ℕ) → j < n → get_or marks j false ≡ false) →
     IsMarking before n cells i 0 struck marks
 marking_begins before n cells i struck marks f g = record {
   shown = λ j h e. absurd (true≢false (sym e ∙ f j h));
@@ -70,18 +70,18 @@ marking_begins before n cells i struck marks f g = record {
 module _ (before : ℕ → ℕ → Bool) (n : ℕ) (cells : List ℕ) (orderly : IsStrictOrder before n) (ordering : IsOrdering before n cells)
     (i : ℕ) (i_within : i < n) where
   -- at its turn a cell is struck exactly where some cell stands between
-  struck_is : (p : ℕ) (struck marks : List Bool) → p < length cells → IsMarking before n cells i p struck marks →
-      get_or struck (get_or cells p 0) false ≡ some_below n (λ k. before i k && before k (get_or cells p 0))
+  struck_is : (p : ℕ) (struck : ℕ → Bool) (marks : List Bool) → p < length cells → IsMarking before n cells i p struck marks →
+      struck (get_or cells p 0) ≡ some_below n (λ k. before i k && before k (get_or cells p 0))
   struck_is p struck marks within m = same_if _ _ there back
     where
       j : ℕ
       j = get_or cells p 0
 
-      there : get_or struck j false ≡ true → some_below n (λ k. before i k && before k j) ≡ true
+      there : struck j ≡ true → some_below n (λ k. before i k && before k j) ≡ true
       there e = (let k = m.shown j (ordering.in_range p within) e in
           some_here n (λ k. before i k && before k j) k.0 k.1.0 (and_true (before i k.0) (before k.0 j) k.1.1.0 k.1.1.1.0))
 
-      back : some_below n (λ k. before i k && before k j) ≡ true → get_or struck j false ≡ true
+      back : some_below n (λ k. before i k && before k j) ≡ true → struck j ≡ true
       back e = (let k = some_found n (λ k. before i k && before k j) e in
           let b = both (before i k.0) (before k.0 j) k.1.1 in
           let q = behind before n cells ordering p k.0 within k.1.0 b.1 in
@@ -89,7 +89,7 @@ module _ (before : ℕ → ℕ → Bool) (n : ℕ) (cells : List ℕ) (orderly :
           let Q : ℕ → Type 0 = λ x. before x j ≡ true in
           m.passed q.0 q.1.0 (subst P (sym q.1.1) b.0) j (ordering.in_range p within) (subst Q (sym q.1.1) b.1))
 
-  direct_is : (p : ℕ) (struck marks : List Bool) → p < length cells → IsMarking before n cells i p struck marks →
+  direct_is : (p : ℕ) (struck : ℕ → Bool) (marks : List Bool) → p < length cells → IsMarking before n cells i p struck marks →
       is_direct before struck i (get_or cells p 0) ≡ covers before n i (get_or cells p 0)
   direct_is p struck marks within m = ap (λ b. before i (get_or cells p 0) && not b) (struck_is p struck marks within m)
 
@@ -99,9 +99,9 @@ module _ (before : ℕ → ℕ → Bool) (n : ℕ) (cells : List ℕ) (orderly :
   not_direct false b e f = absurd (true≢false (sym f))
 
   -- the cell is marked, and what it is before is struck
-  mark_step : (p : ℕ) (struck marks struck' : List Bool) → p < length cells → length marks ≡ n → IsMarking before n cells i p struck marks →
+  mark_step : (p : ℕ) (struck : ℕ → Bool) (marks : List Bool) (struck' : ℕ → Bool) → p < length cells → length marks ≡ n → IsMarking before n cells i p struck marks →
       is_direct before struck i (get_or cells p 0) ≡ true →
-      ((m : ℕ) → m < n → get_or struck' m false ≡ (get_or struck m false || before (get_or cells p 0) m)) →
+      ((m : ℕ) → m < n → struck' m ≡ (struck m || before (get_or cells p 0) m)) →
       IsMarking before n cells i (p + 1) struck' (set marks (get_or cells p 0) true)
   mark_step p struck marks struck' within size m direct new = record {
     shown = shown;
@@ -114,24 +114,24 @@ module _ (before : ℕ → ℕ → Bool) (n : ℕ) (cells : List ℕ) (orderly :
       j = get_or cells p 0
 
       ahead : before i j ≡ true
-      ahead = (both (before i j) (not (get_or struck j false)) direct).0
+      ahead = (both (before i j) (not (struck j)) direct).0
 
-      grown : (k : ℕ) → k < n → get_or struck k false ≡ true → get_or struck' k false ≡ true
-      grown k h e = new k h ∙ or_left (get_or struck k false) (before j k) e
+      grown : (k : ℕ) → k < n → struck k ≡ true → struck' k ≡ true
+      grown k h e = new k h ∙ or_left (struck k) (before j k) e
 
-      reached : (k : ℕ) → k < n → before j k ≡ true → get_or struck' k false ≡ true
-      reached k h e = new k h ∙ or_right (get_or struck k false) (before j k) e
+      reached : (k : ℕ) → k < n → before j k ≡ true → struck' k ≡ true
+      reached k h e = new k h ∙ or_right (struck k) (before j k) e
 
-      shown : (x : ℕ) → x < n → get_or struck' x false ≡ true →
-          (k : ℕ) × ((k < n) × ((before i k ≡ true) × ((before k x ≡ true) × ((y : ℕ) → y < n → before k y ≡ true → get_or struck' y false ≡ true))))
-      shown x h e = elim (either (get_or struck x false) (before j x) (sym (new x h) ∙ e)) [
+      shown : (x : ℕ) → x < n → struck' x ≡ true →
+          (k : ℕ) × ((k < n) × ((before i k ≡ true) × ((before k x ≡ true) × ((y : ℕ) → y < n → before k y ≡ true → struck' y ≡ true))))
+      shown x h e = elim (either (struck x) (before j x) (sym (new x h) ∙ e)) [
         | inl f ↦ (let k = m.shown x h f in
             (k.0, (k.1.0, (k.1.1.0, (k.1.1.1.0, λ y l b. grown y l (k.1.1.1.1 y l b))))))
         | inr f ↦ (j, (ordering.in_range p within, (ahead, (f, λ y l b. reached y l b))))
       ]
 
       passed : (q : ℕ) → q < p + 1 → before i (get_or cells q 0) ≡ true →
-          (y : ℕ) → y < n → before (get_or cells q 0) y ≡ true → get_or struck' y false ≡ true
+          (y : ℕ) → y < n → before (get_or cells q 0) y ≡ true → struck' y ≡ true
       passed q h a y l b = elim (cases_eq q p) [
         | inl last ↦ (let P : ℕ → Type 0 = λ x. before (get_or cells x 0) y ≡ true in reached y l (subst P last b))
         | inr other ↦ grown y l (m.passed q (omega arith) a y l b)
@@ -158,9 +158,9 @@ module _ (before : ℕ → ℕ → Bool) (n : ℕ) (cells : List ℕ) (orderly :
       ]
 
   -- the cell is passed over
-  pass_step : (p : ℕ) (struck marks struck' : List Bool) → p < length cells → IsMarking before n cells i p struck marks →
+  pass_step : (p : ℕ) (struck : ℕ → Bool) (marks : List Bool) (struck' : ℕ → Bool) → p < length cells → IsMarking before n cells i p struck marks →
       is_direct before struck i (get_or cells p 0) ≡ false →
-      ((m : ℕ) → m < n → get_or struck' m false ≡ get_or struck m false) →
+      ((m : ℕ) → m < n → struck' m ≡ struck m) →
       IsMarking before n cells i (p + 1) struck' marks
   pass_step p struck marks struck' within m direct new = record {
     shown = λ x h e. (let k = m.shown x h (sym (new x h) ∙ e) in
@@ -174,11 +174,11 @@ module _ (before : ℕ → ℕ → Bool) (n : ℕ) (cells : List ℕ) (orderly :
       j = get_or cells p 0
 
       passed : (q : ℕ) → q < p + 1 → before i (get_or cells q 0) ≡ true →
-          (y : ℕ) → y < n → before (get_or cells q 0) y ≡ true → get_or struck' y false ≡ true
+          (y : ℕ) → y < n → before (get_or cells q 0) y ≡ true → struck' y ≡ true
       passed q h a y l b = elim (cases_eq q p) [
         | inl last ↦ (let P : ℕ → Type 0 = λ x. before i (get_or cells x 0) ≡ true in
             let Q : ℕ → Type 0 = λ x. before (get_or cells x 0) y ≡ true in
-            let k = m.shown j (ordering.in_range p within) (not_direct (before i j) (get_or struck j false) direct (subst P last a)) in
+            let k = m.shown j (ordering.in_range p within) (not_direct (before i j) (struck j) direct (subst P last a)) in
             new y l ∙ k.1.1.1.1 y l (orderly.joins k.0 j y k.1.0 (ordering.in_range p within) l k.1.1.1.0 (subst Q last b)))
         | inr other ↦ new y l ∙ m.passed q (omega arith) a y l b
       ]
@@ -193,26 +193,26 @@ module _ (before : ℕ → ℕ → Bool) (n : ℕ) (cells : List ℕ) (orderly :
         | inr other ↦ m.right q (omega arith)
       ]
 
-  pub marking_more : (p : ℕ) (struck marks struck' marks' : List Bool) → p < length cells → length marks ≡ n → IsMarking before n cells i p struck marks →
+  pub marking_more : (p : ℕ) (struck : ℕ → Bool) (marks : List Bool) (struck' : ℕ → Bool) (marks' : List Bool) → p < length cells → length marks ≡ n → IsMarking before n cells i p struck marks →
       marks' ≡ cond (is_direct before struck i (get_or cells p 0)) (set marks (get_or cells p 0) true) marks →
-      ((m : ℕ) → m < n → get_or struck' m false ≡ (get_or struck m false || (is_direct before struck i (get_or cells p 0) && before (get_or cells p 0) m))) →
+      ((m : ℕ) → m < n → struck' m ≡ (struck m || (is_direct before struck i (get_or cells p 0) && before (get_or cells p 0) m))) →
       IsMarking before n cells i (p + 1) struck' marks'
   marking_more p struck marks struck' marks' within size m marked new = elim (cases_Bool (is_direct before struck i (get_or cells p 0))) [
     | inl e ↦ (let f : marks' ≡ set marks (get_or cells p 0) true = marked ∙ ap (λ b. cond b (set marks (get_or cells p 0) true) marks) e in
         let P : List Bool → Type 0 = λ ms. IsMarking before n cells i (p + 1) struck' ms in
         subst P (sym f) (mark_step p struck marks struck' within size m e
-        (λ y h. new y h ∙ ap (λ b. get_or struck y false || (b && before (get_or cells p 0) y)) e)))
+        (λ y h. new y h ∙ ap (λ b. struck y || (b && before (get_or cells p 0) y)) e)))
     | inr e ↦ (let f : marks' ≡ marks = marked ∙ ap (λ b. cond b (set marks (get_or cells p 0) true) marks) e in
         let P : List Bool → Type 0 = λ ms. IsMarking before n cells i (p + 1) struck' ms in
         subst P (sym f) (pass_step p struck marks struck' within m e
-        (λ y h. new y h ∙ ap (λ b. get_or struck y false || (b && before (get_or cells p 0) y)) e ∙ or_false (get_or struck y false))))
+        (λ y h. new y h ∙ ap (λ b. struck y || (b && before (get_or cells p 0) y)) e ∙ or_false (struck y))))
   ]
     where
       or_false : (a : Bool) → (a || false) ≡ a
       or_false true = refl
       or_false false = refl
 
-  pub marking_ends : (struck marks : List Bool) → IsMarking before n cells i (length cells) struck marks →
+  pub marking_ends : (struck : ℕ → Bool) (marks : List Bool) → IsMarking before n cells i (length cells) struck marks →
       (j : ℕ) → j < n → get_or marks j false ≡ covers before n i j
   marking_ends struck marks m j h = (let p = ordering.whole j h in
       let P : ℕ → Type 0 = λ x. get_or marks x false ≡ covers before n i x in

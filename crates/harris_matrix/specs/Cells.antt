@@ -1,13 +1,9 @@
 -- Cells of periods, their representatives, and which cells come before which, over a table of what follows.
-use Rattle.std.specs.Prelude.{◌<◌, ℕ, Bool, false, not, ◌&&◌, ◌||◌, nat_lt, List, [], ◌∷◌, filter, slice_index_or, length}
+use Rattle.std.specs.Prelude.{ℕ, Bool, false, not, ◌&&◌, ◌||◌, nat_lt, List, [], ◌∷◌, filter, slice_index_or}
 use Rattle.order_laws.specs.declared.Point.{Point}
 use Rattle.order_laws.specs.declared.Point.TheVariants.{Start, End}
 use Rattle.order_laws.specs.declared.Reach.{Reach}
 use Rattle.order_laws.specs.Tables.{is_known}
-
--- each of the numbers is that of an extent
-abbrev pub AreExtents : ℕ → List ℕ → Type 0
-AreExtents extents numbers = (k : ℕ) → k < length numbers → slice_index_or numbers k 0 < extents
 
 -- two extents share a cell where all four `<=` between their starts and between their ends follow
 abbrev pub shares_cell : (Point → Point → Reach) → ℕ → ℕ → Bool

@@ -1,5 +1,5 @@
 -- Covers: which cells stand directly before which.
-use Rattle.std.specs.Prelude.{zero, suc, ℕ, Bool, false, cond, not, ◌&&◌, ◌||◌, List, [], ◌∷◌, ◌++◌, length, slice_index_or}
+use Rattle.std.specs.Prelude.{zero, suc, ℕ, Bool, false, cond, not, ◌&&◌, ◌||◌, List, [], ◌∷◌, ◌++◌, length}
 use Rattle.harris_matrix.specs.declared.cells.CellPair.{CellPair}
 
 abbrev pub some_below : ℕ → (ℕ → Bool) → Bool
@@ -11,8 +11,8 @@ abbrev pub covers : (ℕ → ℕ → Bool) → ℕ → ℕ → ℕ → Bool
 covers before count i j = before i j && not (some_below count (λ k. before i k && before k j))
 
 -- i is before j, which is not struck
-abbrev pub is_direct : (ℕ → ℕ → Bool) → List Bool → ℕ → ℕ → Bool
-is_direct before struck i j = before i j && not (slice_index_or struck j false)
+abbrev pub is_direct : (ℕ → ℕ → Bool) → (ℕ → Bool) → ℕ → ℕ → Bool
+is_direct before struck i j = before i j && not (struck j)
 
 -- the pairs of i and the first numbers that pass the test, ascending
 abbrev pub pairs_with : ℕ → (ℕ → Bool) → ℕ → List CellPair

@@ -1,39 +1,51 @@
 // The covers of cells, a row at a time.
 ghost use Rattle.std.specs.Prelude.{◌≡◌, ◌<◌, ◌≤◌, ◌||◌, ◌&&◌, ◌++◌, ◌^◌, ℕ, OnOk, IfOk, length, slice_index_or, slice_set, true, false, cond};
+ghost use Rattle.order_closure.specs.Rows.{row_width as width_of, bit_of};
 ghost use Rattle.harris_matrix.specs.Covers.{covers, is_direct, pairs_with, all_covers, starts_of};
 ghost use Rattle.harris_matrix.specs.Levels.{IsOrdering};
 ghost use Rattle.harris_matrix.specs.Rows.{mark_at, AreRows, IsStrictOrder};
 
-use crate::rows::{Rows, is_before, row_of};
+use crate::rows::{Rows, has_bit, is_before, row_of, row_width};
 use crate::{CellPair, PairList};
 use std::alloc::{AllocError, Global};
 
+// Sets no bit of a row of so many.
+fn clear(count: u32, words: &mut [u64])
+    requires few { count ≤ 2 ^ 16 }
+    requires size { length words.old ≡ width_of count }
+    ensures { (j : ℕ) → j < count → bit_of words.new 0 j ≡ false }
+{
+    for k in 0..row_width(count) {
+        words[k] = 0;
+    }
+}
+
 // Strikes the cells that cell i is before.
-fn strike(rows: &Rows, i: u32, struck: &mut [bool])
-    requires rows { AreRows rows.now.count rows.now.marks.items }
+fn strike(rows: &Rows, i: u32, struck: &mut [u64])
+    requires rows { AreRows rows.now.count rows.now.words.items }
     requires in_range { i < rows.now.count }
-    requires size { length struck.old ≡ rows.now.count }
+    requires size { length struck.old ≡ width_of rows.now.count }
     ensures { (j : ℕ) → j < rows.now.count →
-        slice_index_or struck.new j false ≡ (slice_index_or struck.old j false || mark_at rows.now.count rows.now.marks.items i j) }
+        bit_of struck.new 0 j ≡ (bit_of struck.old 0 j || mark_at rows.now.count rows.now.words.items i j) }
 {
     let row = row_of(rows, i);
-    for j in 0..row.len() {
-        struck[j] = struck[j] || row[j];
+    for k in 0..row.len() {
+        struck[k] |= row[k];
     }
 }
 
 // Marks cell j if cell i is before it and it is not struck, and then strikes the cells that it is before.
-fn mark_cell(rows: &Rows, i: u32, j: u32, struck: &mut [bool], marks: &mut [bool])
-    requires rows { AreRows rows.now.count rows.now.marks.items }
+fn mark_cell(rows: &Rows, i: u32, j: u32, struck: &mut [u64], marks: &mut [bool])
+    requires rows { AreRows rows.now.count rows.now.words.items }
     requires first { i < rows.now.count }
     requires second { j < rows.now.count }
-    requires struck { length struck.old ≡ rows.now.count }
+    requires struck { length struck.old ≡ width_of rows.now.count }
     requires marks { length marks.old ≡ rows.now.count }
-    ensures marked { marks.new ≡ cond (is_direct (mark_at rows.now.count rows.now.marks.items) struck.old i j) (slice_set marks.old j true) marks.old }
-    ensures struck { (m : ℕ) → m < rows.now.count → slice_index_or struck.new m false ≡ (slice_index_or struck.old m false
-        || (is_direct (mark_at rows.now.count rows.now.marks.items) struck.old i j && mark_at rows.now.count rows.now.marks.items j m)) }
+    ensures marked { marks.new ≡ cond (is_direct (mark_at rows.now.count rows.now.words.items) (bit_of struck.old 0) i j) (slice_set marks.old j true) marks.old }
+    ensures struck { (m : ℕ) → m < rows.now.count → bit_of struck.new 0 m ≡ (bit_of struck.old 0 m
+        || (is_direct (mark_at rows.now.count rows.now.words.items) (bit_of struck.old 0) i j && mark_at rows.now.count rows.now.words.items j m)) }
 {
-    if is_before(rows, i, j) && !struck[j as usize] {
+    if is_before(rows, i, j) && !has_bit(struck, 0, j as usize) {
         marks[j as usize] = true;
         strike(rows, j, struck);
     }
@@ -41,17 +53,17 @@ fn mark_cell(rows: &Rows, i: u32, j: u32, struck: &mut [bool], marks: &mut [bool
 
 // Marks the cells that cell i covers: of the cells that it is before, in an order in which each stands
 // behind all that are before it, those that no cover ahead of them is before.
-fn mark_covers(rows: &Rows, cells: &[u32], i: u32, struck: &mut [bool], marks: &mut [bool])
-    requires rows { AreRows rows.now.count rows.now.marks.items }
-    requires orderly { IsStrictOrder (mark_at rows.now.count rows.now.marks.items) rows.now.count }
-    requires ordering { IsOrdering (mark_at rows.now.count rows.now.marks.items) rows.now.count cells.now }
+fn mark_covers(rows: &Rows, cells: &[u32], i: u32, struck: &mut [u64], marks: &mut [bool])
+    requires rows { AreRows rows.now.count rows.now.words.items }
+    requires orderly { IsStrictOrder (mark_at rows.now.count rows.now.words.items) rows.now.count }
+    requires ordering { IsOrdering (mark_at rows.now.count rows.now.words.items) rows.now.count cells.now }
     requires in_range { i < rows.now.count }
-    requires struck { length struck.old ≡ rows.now.count }
+    requires struck { length struck.old ≡ width_of rows.now.count }
     requires marks { length marks.old ≡ rows.now.count }
     ensures { (j : ℕ) → j < rows.now.count →
-        slice_index_or marks.new j false ≡ covers (mark_at rows.now.count rows.now.marks.items) rows.now.count i j }
+        slice_index_or marks.new j false ≡ covers (mark_at rows.now.count rows.now.words.items) rows.now.count i j }
 {
-    struck.fill(false);
+    clear(rows.count, struck);
     marks.fill(false);
     for j in cells {
         mark_cell(rows, i, *j, struck, marks);
@@ -83,14 +95,14 @@ pub struct Covered {
 
 /// The covers of all cells.
 pub fn find_covers(alloc: Global, rows: &Rows, cells: &[u32]) -> Result<Covered, AllocError>
-    requires rows { AreRows rows.now.count rows.now.marks.items }
-    requires orderly { IsStrictOrder (mark_at rows.now.count rows.now.marks.items) rows.now.count }
-    requires ordering { IsOrdering (mark_at rows.now.count rows.now.marks.items) rows.now.count cells.now }
-    ensures pairs { IfOk result (λ c. c.pairs ≡ all_covers (mark_at rows.now.count rows.now.marks.items) rows.now.count) }
-    ensures starts { IfOk result (λ c. c.starts.items ≡ starts_of (mark_at rows.now.count rows.now.marks.items) rows.now.count rows.now.count) }
+    requires rows { AreRows rows.now.count rows.now.words.items }
+    requires orderly { IsStrictOrder (mark_at rows.now.count rows.now.words.items) rows.now.count }
+    requires ordering { IsOrdering (mark_at rows.now.count rows.now.words.items) rows.now.count cells.now }
+    ensures pairs { IfOk result (λ c. c.pairs ≡ all_covers (mark_at rows.now.count rows.now.words.items) rows.now.count) }
+    ensures starts { IfOk result (λ c. c.starts.items ≡ starts_of (mark_at rows.now.count rows.now.words.items) rows.now.count rows.now.count) }
 {
     let count = rows.count as usize;
-    let mut struck_kept = vec![in alloc; false; count]?;
+    let mut struck_kept = vec![in alloc; 0; row_width(rows.count)]?;
     let struck = struck_kept.as_mut_slice();
     let mut marks_kept = vec![in alloc; false; count]?;
     let marks = marks_kept.as_mut_slice();

@@ -17,9 +17,9 @@ pub struct Ranked {
 
 // How many cells are before cell j.
 fn rank(rows: &Rows, j: u32) -> u32
-    requires rows { AreRows rows.now.count rows.now.marks.items }
+    requires rows { AreRows rows.now.count rows.now.words.items }
     requires in_range { j < rows.now.count }
-    ensures { result ≡ count_below rows.now.count (λ k. mark_at rows.now.count rows.now.marks.items k j) }
+    ensures { result ≡ count_below rows.now.count (λ k. mark_at rows.now.count rows.now.words.items k j) }
 {
     let mut count = 0;
     for k in 0..rows.count {
@@ -32,11 +32,11 @@ fn rank(rows: &Rows, j: u32) -> u32
 
 // One more than the greatest level of the cells before cell j, or 0 where there are none.
 fn above(rows: &Rows, levels: &[u32], j: u32) -> u32
-    requires rows { AreRows rows.now.count rows.now.marks.items }
+    requires rows { AreRows rows.now.count rows.now.words.items }
     requires in_range { j < rows.now.count }
     requires size { length levels.now ≡ rows.now.count }
     requires low { (k : ℕ) → k < rows.now.count → slice_index_or levels.now k 0 < rows.now.count }
-    ensures { result ≡ above_all rows.now.count (λ k. mark_at rows.now.count rows.now.marks.items k j) levels.now }
+    ensures { result ≡ above_all rows.now.count (λ k. mark_at rows.now.count rows.now.words.items k j) levels.now }
 {
     let mut level = 0;
     for k in 0..rows.count {
@@ -48,8 +48,8 @@ fn above(rows: &Rows, levels: &[u32], j: u32) -> u32
 }
 
 fn rank_cells(alloc: Global, rows: &Rows) -> Result<Vec<Ranked>, AllocError>
-    requires rows { AreRows rows.now.count rows.now.marks.items }
-    ensures { IfOk result (λ v. v.items ≡ ranked_below (mark_at rows.now.count rows.now.marks.items) rows.now.count rows.now.count) }
+    requires rows { AreRows rows.now.count rows.now.words.items }
+    ensures { IfOk result (λ v. v.items ≡ ranked_below (mark_at rows.now.count rows.now.words.items) rows.now.count rows.now.count) }
 {
     let mut ranked = Vec::with_capacity(alloc, rows.count as usize)?;
     for cell in 0..rows.count {
@@ -72,9 +72,9 @@ fn sort_ranked(ranked: &mut Vec<Ranked>) -> Result<(), AllocError>
 /// The cells in an order in which each stands behind all that are before it: by the number of these, since
 /// a cell has more cells before it than any of those.
 pub fn order_cells(alloc: Global, rows: &Rows) -> Result<Vec<u32>, AllocError>
-    requires rows { AreRows rows.now.count rows.now.marks.items }
-    requires orderly { IsStrictOrder (mark_at rows.now.count rows.now.marks.items) rows.now.count }
-    ensures { IfOk result (λ v. IsOrdering (mark_at rows.now.count rows.now.marks.items) rows.now.count v.items) }
+    requires rows { AreRows rows.now.count rows.now.words.items }
+    requires orderly { IsStrictOrder (mark_at rows.now.count rows.now.words.items) rows.now.count }
+    ensures { IfOk result (λ v. IsOrdering (mark_at rows.now.count rows.now.words.items) rows.now.count v.items) }
 {
     let mut ranked = rank_cells(alloc, rows)?;
     sort_ranked(&mut ranked)?;
@@ -87,10 +87,10 @@ pub fn order_cells(alloc: Global, rows: &Rows) -> Result<Vec<u32>, AllocError>
 
 /// The level of each cell.
 pub fn find_levels(alloc: Global, rows: &Rows, cells: &[u32]) -> Result<Vec<u32>, AllocError>
-    requires rows { AreRows rows.now.count rows.now.marks.items }
-    requires orderly { IsStrictOrder (mark_at rows.now.count rows.now.marks.items) rows.now.count }
-    requires ordering { IsOrdering (mark_at rows.now.count rows.now.marks.items) rows.now.count cells.now }
-    ensures { IfOk result (λ v. AreLevels (mark_at rows.now.count rows.now.marks.items) rows.now.count v.items) }
+    requires rows { AreRows rows.now.count rows.now.words.items }
+    requires orderly { IsStrictOrder (mark_at rows.now.count rows.now.words.items) rows.now.count }
+    requires ordering { IsOrdering (mark_at rows.now.count rows.now.words.items) rows.now.count cells.now }
+    ensures { IfOk result (λ v. AreLevels (mark_at rows.now.count rows.now.words.items) rows.now.count v.items) }
 {
     let mut levels = vec![in alloc; 0; rows.count as usize]?;
     for j in cells {

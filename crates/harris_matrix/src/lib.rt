@@ -9,8 +9,6 @@ mod levels;
 mod matrix;
 mod rows;
 mod targets;
-#[cfg(test)]
-mod tests;
 mod walking;
 
 pub use cells::{Cell, CellList, CellPair, PairList};

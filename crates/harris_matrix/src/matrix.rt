@@ -3,7 +3,8 @@ ghost use Rattle.std.specs.Prelude.{◌≡◌, ◌<◌, ◌≤◌, ◌^◌, ◌*
 ghost use Rattle.order_laws.specs.Chains.{HasCycle};
 ghost use Rattle.order_laws.specs.Closure.{reach_between};
 ghost use Rattle.order_closure.specs.Closures.{IsClosureOf};
-ghost use Rattle.harris_matrix.specs.Cells.{AreExtents, ends_before, comes_before};
+ghost use Rattle.order_core.specs.Sets.{AreExtents};
+ghost use Rattle.harris_matrix.specs.Cells.{ends_before, comes_before};
 ghost use Rattle.harris_matrix.specs.Matrices.{IsMatrixOf, cells_below};
 ghost use Rattle.harris_matrix.specs.Walks.{AreDistances, IsWalkBetween};
 ghost use Rattle.harris_matrix.specs.Rows.{AreRows, IsMarked, IsStrictOrder, mark_at};
@@ -34,10 +35,10 @@ fn order_rows(
     requires least { AreExtents set.now.extents least.now }
     requires few { length least.now ≤ 2 ^ 16 }
     ensures count { IfOk result (λ r. r.count ≡ length least.now) }
-    ensures rows { IfOk result (λ r. AreRows r.count r.marks.items) }
-    ensures orderly { IfOk result (λ r. IsStrictOrder (mark_at r.count r.marks.items) r.count) }
+    ensures rows { IfOk result (λ r. AreRows r.count r.words.items) }
+    ensures orderly { IfOk result (λ r. IsStrictOrder (mark_at r.count r.words.items) r.count) }
     ensures marked { IfOk result (λ r. (i j : ℕ) → i < r.count → j < r.count →
-        mark_at r.count r.marks.items i j ≡ comes_before (reach_between set.now.list) least.now i j) }
+        mark_at r.count r.words.items i j ≡ comes_before (reach_between set.now.list) least.now i j) }
 {
     set.conditions();
     closure_is_what_follows();
@@ -55,6 +56,7 @@ fn make_cells(
     levels: &[u32],
 ) -> Result<CellList, AllocError>
     requires closure { IsClosureOf set.now closure.now }
+    requires consistent { ¬ HasCycle set.now.list }
     requires periods { AreExtents set.now.extents periods.now }
     requires least { AreExtents set.now.extents least.now }
     requires levels { length levels.now ≡ length least.now }

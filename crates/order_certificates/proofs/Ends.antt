@@ -9,9 +9,9 @@ use Rattle.order_laws.specs.Tables.{is_strict}
 use Rattle.chain_certificate.specs.declared.tree.Node.{Node}
 use Rattle.chain_certificate.specs.Tree.{chain_of}
 use Rattle.chain_certificate.specs.Ends.{chain_at}
-use Rattle.reason_report.specs.Reason.{reason_of}
+use Rattle.order_analysis.specs.Reasons.{reason_of}
 use Rattle.order_core.specs.Sets.{Orders}
-use Rattle.reason_report.specs.declared.sides.Side.{Side}
+use Rattle.order_core.specs.declared.sides.Side.{Side}
 use Rattle.order_certificates.specs.declared.shared_routes.SharedRoutes.{SharedRoutes}
 use Rattle.order_certificates.specs.Sharing.{LetSteps}
 use Rattle.order_certificates.specs.OrderCertificates.{side_lets}

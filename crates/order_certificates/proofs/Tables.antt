@@ -8,8 +8,8 @@ use Rattle.order_laws.specs.declared.Reach.TheVariants.{None as Nothing, Le, Lt}
 use Rattle.order_core.specs.Sets.{Orders}
 use Rattle.chain_certificate.specs.declared.tree.Node.{Node}
 use Rattle.chain_certificate.specs.Tree.{node_at, chain_of}
-use Rattle.reason_report.specs.declared.sides.Side.{Side}
-use Rattle.reason_report.specs.Relations.{reach_at}
+use Rattle.order_core.specs.declared.sides.Side.{Side}
+use Rattle.order_analysis.specs.Reasons.{reach_at}
 use Rattle.order_certificates.specs.declared.sharing.Part.{Part}
 use Rattle.order_certificates.specs.declared.sharing.Part.TheVariants.{Order as OneOrder}
 use Rattle.order_certificates.specs.declared.sharing.Step.{Step}

@@ -10,10 +10,10 @@ use Rattle.order_laws.specs.declared.Reach.TheVariants.{None as Nothing, Le, Lt}
 use Rattle.order_laws.specs.Wider.{plain_placing, delaying_placing}
 use Rattle.order_core.specs.Sets.{Orders}
 use Rattle.order_texts.specs.Texts.{position_text}
-use Rattle.reason_report.specs.declared.sides.Side.{Side}
-use Rattle.reason_report.specs.declared.sides.Side.TheVariants.{StartEnd, StartStart, EndStart, EndEnd}
-use Rattle.reason_report.specs.Relations.{left_point, right_point, reach_at, all_sides}
-use Rattle.reason_report.specs.Reason.{reason_of}
+use Rattle.order_core.specs.declared.sides.Side.{Side}
+use Rattle.order_core.specs.declared.sides.Side.TheVariants.{StartEnd, StartStart, EndStart, EndEnd}
+use Rattle.order_core.specs.Sides.{left_point, right_point, side_name, all_sides}
+use Rattle.order_analysis.specs.Reasons.{reach_at, reason_of}
 use Rattle.order_certificates.specs.declared.sharing.Part.{Part}
 use Rattle.order_certificates.specs.Sharing.{LetSteps, no_lets, turned, part_text, chain_part, chain_lets, chain_lines}
 
@@ -40,12 +40,6 @@ delay_number place StartEnd = 2 * place + 1
 delay_number place StartStart = 2 * place + 1
 delay_number place EndStart = 2 * place + 2
 delay_number place EndEnd = 2 * place + 2
-
-abbrev pub side_name : Side → List ℕ
-side_name StartEnd = codes "se"
-side_name StartStart = codes "ss"
-side_name EndStart = codes "es"
-side_name EndEnd = codes "ee"
 
 abbrev pub extent_name : ℕ → List ℕ
 extent_name k = codes "x" ++ decimal k

@@ -2,7 +2,6 @@
 #![tactic(auto)]
 
 mod balanced;
-mod basis;
 mod cycles;
 mod drafts;
 mod lines;
@@ -14,7 +13,6 @@ mod shared_routes;
 mod sharing;
 
 pub use balanced::append_balanced;
-pub use basis::Basis;
 pub use cycles::cycle_certificate;
 pub use drafts::{Drafts, count_drafts, print_drafts};
 pub use names::append_name;

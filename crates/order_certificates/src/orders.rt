@@ -5,12 +5,12 @@ ghost use Rattle.order_certificates.specs.OrderCertificates as spec;
 ghost use Rattle.order_certificates.specs.Sharing.{LetSteps, no_lets};
 ghost use Rattle.order_certificates.specs.Stages.{IsRowOf, IsStageOf, text_left, rows_from, row_from};
 
-use crate::basis::Basis;
 use crate::lines::append_place;
 use crate::pairs::{Row, append_pair};
 use crate::pieces::Pieces;
 use crate::shared_routes::build_shared;
 use crate::sharing::Lets;
+use order_analysis::Analysis;
 use order_core::Point;
 use placing_witness::Placings;
 use std::alloc::{AllocError, Global};
@@ -66,16 +66,16 @@ fn append_delays(
 }
 
 // The row of the period at a place, with all pairs still to come.
-fn row_of(basis: &Basis, place: usize, a: u32) -> Result<Row, AllocError>
-    requires within { a < basis.now.set.extents }
+fn row_of(analysis: &Analysis, place: usize, a: u32) -> Result<Row, AllocError>
+    requires within { a < analysis.now.set.extents }
     requires few { place < 2 ^ 20 }
-    ensures row { IfOk result (λ r. (lets : LetSteps) → IsRowOf basis.now.set lets r) }
+    ensures row { IfOk result (λ r. (lets : LetSteps) → IsRowOf analysis.now.set lets r) }
     ensures period { IfOk result (λ r. r.period ≡ a) }
     ensures place { IfOk result (λ r. r.place ≡ place) }
     ensures next { IfOk result (λ r. r.next ≡ 0) }
 {
-    let from_start = build_shared(basis, Point::Start(a))?;
-    let from_end = build_shared(basis, Point::End(a))?;
+    let from_start = build_shared(analysis, Point::Start(a))?;
+    let from_end = build_shared(analysis, Point::End(a))?;
     Ok(Row {
         period: a,
         place,
@@ -87,10 +87,10 @@ fn row_of(basis: &Basis, place: usize, a: u32) -> Result<Row, AllocError>
 
 // The first line.
 #[tactic(auto, using(crate::proofs::Going::head_more))]
-fn next_head(basis: &Basis, line: &mut Vec<u8>) -> Result<Stage, AllocError>
-    ensures stage { IfOk result (λ s. IsStageOf basis.now.set no_lets s) }
-    ensures text { IfOk result (λ s. line.new.items ++ text_left basis.now.set basis.now.periods no_lets s
-        ≡ line.old.items ++ text_left basis.now.set basis.now.periods no_lets Stage.Head) }
+fn next_head(analysis: &Analysis, line: &mut Vec<u8>) -> Result<Stage, AllocError>
+    ensures stage { IfOk result (λ s. IsStageOf analysis.now.set no_lets s) }
+    ensures text { IfOk result (λ s. line.new.items ++ text_left analysis.now.set analysis.now.periods no_lets s
+        ≡ line.old.items ++ text_left analysis.now.set analysis.now.periods no_lets Stage.Head) }
 {
     line.extend_from_slice(b"crmtime 2 orders\n")?;
     Ok(Stage::Plain)
@@ -98,19 +98,19 @@ fn next_head(basis: &Basis, line: &mut Vec<u8>) -> Result<Stage, AllocError>
 
 // The placings of the period at a place, or nothing behind all.
 fn next_delays(
-    basis: &Basis,
+    analysis: &Analysis,
     placings: &Placings,
     i: usize,
     line: &mut Vec<u8>,
 ) -> Result<Stage, AllocError>
-    requires same { placings.now ≡ basis.now.set }
-    ensures stage { IfOk result (λ s. IsStageOf basis.now.set no_lets s) }
-    ensures text { IfOk result (λ s. line.new.items ++ text_left basis.now.set basis.now.periods no_lets s
-        ≡ line.old.items ++ text_left basis.now.set basis.now.periods no_lets (Stage.Delays i)) }
+    requires same { placings.now ≡ analysis.now.set }
+    ensures stage { IfOk result (λ s. IsStageOf analysis.now.set no_lets s) }
+    ensures text { IfOk result (λ s. line.new.items ++ text_left analysis.now.set analysis.now.periods no_lets s
+        ≡ line.old.items ++ text_left analysis.now.set analysis.now.periods no_lets (Stage.Delays i)) }
 {
-    match basis.period(i) {
+    match analysis.period(i) {
         Some(k) => {
-            append_delays(basis.alloc, placings, k, line)?;
+            append_delays(analysis.alloc(), placings, k, line)?;
             Ok(Stage::Delays(i + 1))
         }
         None => Ok(Stage::Rows(0)),
@@ -119,18 +119,18 @@ fn next_delays(
 
 // The row of the period at a place, or the last line behind all.
 fn next_row(
-    basis: &Basis,
+    analysis: &Analysis,
     i: usize,
     lets: &mut Lets,
     line: &mut Vec<u8>,
 ) -> Result<Stage, AllocError>
-    ensures stage { IfOk result (λ s. IsStageOf basis.now.set lets.new s) }
-    ensures text { IfOk result (λ s. line.new.items ++ text_left basis.now.set basis.now.periods lets.new s
-        ≡ line.old.items ++ rows_from basis.now.set basis.now.periods i lets.old) }
+    ensures stage { IfOk result (λ s. IsStageOf analysis.now.set lets.new s) }
+    ensures text { IfOk result (λ s. line.new.items ++ text_left analysis.now.set analysis.now.periods lets.new s
+        ≡ line.old.items ++ rows_from analysis.now.set analysis.now.periods i lets.old) }
 {
-    match basis.period(i) {
+    match analysis.period(i) {
         Some(a) => {
-            let row = row_of(basis, i, a)?;
+            let row = row_of(analysis, i, a)?;
             lets.turn()?;
             Ok(Stage::Pairs(row))
         }
@@ -143,19 +143,19 @@ fn next_row(
 
 // The next pair of a row, or nothing behind all.
 fn next_pair(
-    basis: &Basis,
+    analysis: &Analysis,
     mut row: Row,
     lets: &mut Lets,
     line: &mut Vec<u8>,
 ) -> Result<Stage, AllocError>
-    requires { IsRowOf basis.now.set lets.old row }
-    ensures stage { IfOk result (λ s. IsStageOf basis.now.set lets.new s) }
-    ensures text { IfOk result (λ s. line.new.items ++ text_left basis.now.set basis.now.periods lets.new s
-        ≡ line.old.items ++ row_from basis.now.set basis.now.periods row lets.old) }
+    requires { IsRowOf analysis.now.set lets.old row }
+    ensures stage { IfOk result (λ s. IsStageOf analysis.now.set lets.new s) }
+    ensures text { IfOk result (λ s. line.new.items ++ text_left analysis.now.set analysis.now.periods lets.new s
+        ≡ line.old.items ++ row_from analysis.now.set analysis.now.periods row lets.old) }
 {
-    match basis.period(row.next) {
+    match analysis.period(row.next) {
         Some(b) => {
-            append_pair(basis, &mut row, b, lets, line)?;
+            append_pair(analysis, &mut row, b, lets, line)?;
             row.next += 1;
             Ok(Stage::Pairs(row))
         }
@@ -166,7 +166,7 @@ fn next_pair(
 /// A certificate of consistent orders, of which a part may be printed.
 #[derive(Drop)]
 pub struct OrderPieces<'a> {
-    basis: &'a Basis<'a>,
+    analysis: &'a Analysis<'a>,
     placings: &'a Placings<'a>,
     lets: Lets,
     stage: Stage,
@@ -174,27 +174,27 @@ pub struct OrderPieces<'a> {
 
 // What comes behind a stage.
 fn next_stage(
-    basis: &Basis,
+    analysis: &Analysis,
     placings: &Placings,
     stage: Stage,
     lets: &mut Lets,
     line: &mut Vec<u8>,
 ) -> Result<Stage, AllocError>
-    requires same { placings.now ≡ basis.now.set }
-    requires stage { IsStageOf basis.now.set lets.old stage }
-    ensures stage { IfOk result (λ s. IsStageOf basis.now.set lets.new s) }
-    ensures text { IfOk result (λ s. line.new.items ++ text_left basis.now.set basis.now.periods lets.new s
-        ≡ line.old.items ++ text_left basis.now.set basis.now.periods lets.old stage) }
+    requires same { placings.now ≡ analysis.now.set }
+    requires stage { IsStageOf analysis.now.set lets.old stage }
+    ensures stage { IfOk result (λ s. IsStageOf analysis.now.set lets.new s) }
+    ensures text { IfOk result (λ s. line.new.items ++ text_left analysis.now.set analysis.now.periods lets.new s
+        ≡ line.old.items ++ text_left analysis.now.set analysis.now.periods lets.old stage) }
 {
     match stage {
-        Stage::Head => next_head(basis, line),
+        Stage::Head => next_head(analysis, line),
         Stage::Plain => {
-            append_plain(basis.alloc, placings, line)?;
+            append_plain(analysis.alloc(), placings, line)?;
             Ok(Stage::Delays(0))
         }
-        Stage::Delays(i) => next_delays(basis, placings, i, line),
-        Stage::Rows(i) => next_row(basis, i, lets, line),
-        Stage::Pairs(row) => next_pair(basis, row, lets, line),
+        Stage::Delays(i) => next_delays(analysis, placings, i, line),
+        Stage::Rows(i) => next_row(analysis, i, lets, line),
+        Stage::Pairs(row) => next_pair(analysis, row, lets, line),
         Stage::Over => Ok(Stage::Over),
     }
 }
@@ -210,15 +210,15 @@ fn is_going_on(stage: &Stage) -> bool
 
 impl<'a> OrderPieces<'a> {
     /// The certificate of the orders that the placings are of, of which nothing is printed.
-    pub fn new(basis: &'a Basis<'a>, placings: &'a Placings<'a>) -> OrderPieces<'a>
-        requires { placings.now ≡ basis.now.set }
+    pub fn new(analysis: &'a Analysis<'a>, placings: &'a Placings<'a>) -> OrderPieces<'a>
+        requires { placings.now ≡ analysis.now.set }
         ensures sound { ⟦<OrderPieces<'a> as Pieces>⟧.IsSound result }
-        ensures text { ⟦<OrderPieces<'a> as Pieces>⟧.rest result ≡ spec.consistent_text basis.now.set basis.now.periods }
+        ensures text { ⟦<OrderPieces<'a> as Pieces>⟧.rest result ≡ spec.consistent_text analysis.now.set analysis.now.periods }
     {
         OrderPieces {
-            basis,
+            analysis,
             placings,
-            lets: Lets::new(basis.alloc),
+            lets: Lets::new(analysis.alloc()),
             stage: Stage::Head,
         }
     }
@@ -228,13 +228,13 @@ impl<'a> Pieces for OrderPieces<'a> {
     ghost use Rattle.std.specs.Prelude.{◌≡◌};
     ghost use Rattle.order_certificates.specs.Stages.{IsStageOf, text_left};
 
-    ghost rest = { λ p. text_left p.basis.now.set p.basis.now.periods p.lets p.stage };
+    ghost rest = { λ p. text_left p.analysis.now.set p.analysis.now.periods p.lets p.stage };
 
-    ghost IsSound = { λ p. (p.placings.now ≡ p.basis.now.set) × IsStageOf p.basis.now.set p.lets p.stage };
+    ghost IsSound = { λ p. (p.placings.now ≡ p.analysis.now.set) × IsStageOf p.analysis.now.set p.lets p.stage };
 
     fn append_next(&mut self, line: &mut Vec<u8>) -> Result<bool, AllocError> {
         let stage = std::mem::replace(&mut self.stage, Stage::Over);
-        let next = next_stage(self.basis, self.placings, stage, &mut self.lets, line)?;
+        let next = next_stage(self.analysis, self.placings, stage, &mut self.lets, line)?;
         let more = is_going_on(&next);
         self.stage = next;
         Ok(more)

@@ -5,9 +5,9 @@ ghost use Rattle.chain_certificate.specs.Tree.{node_at, chain_of};
 ghost use Rattle.order_certificates.specs.Sharing.{LetSteps, chain_part, chain_lets, chain_lines};
 ghost use Rattle.order_certificates.specs.Keeping.{IsKept, AreKept, IsSharing, IsClimbed};
 
-use crate::basis::Basis;
 use crate::sharing::{Lets, Part, Step};
 use chain_certificate::Routes;
+use order_analysis::Analysis;
 use order_core::Point;
 use std::alloc::{AllocError, Global};
 
@@ -29,12 +29,12 @@ fn no_parts(alloc: Global, count: usize) -> Result<Vec<Option<Part>>, AllocError
 }
 
 /// The chains from a boundary, of which nothing is kept.
-pub(crate) fn build_shared(basis: &Basis, source: Point) -> Result<SharedRoutes, AllocError>
-    requires { IsPoint basis.now.set.extents (length basis.now.set.dates) source }
-    ensures { IfOk result (λ r. (lets : LetSteps) → IsSharing basis.now.set source lets r) }
+pub(crate) fn build_shared(analysis: &Analysis, source: Point) -> Result<SharedRoutes, AllocError>
+    requires { IsPoint analysis.now.set.extents (length analysis.now.set.dates) source }
+    ensures { IfOk result (λ r. (lets : LetSteps) → IsSharing analysis.now.set source lets r) }
 {
-    let routes = Routes::build_uncounted(basis.alloc, basis.set, basis.edges, source)?;
-    let parts = no_parts(basis.alloc, routes.node_count())?;
+    let routes = analysis.routes(source)?;
+    let parts = no_parts(analysis.alloc(), routes.node_count())?;
     Ok(SharedRoutes { routes, parts })
 }
 

@@ -1,16 +1,18 @@
-//! What follows between points in time from a set of orders, by a search from each point along linked orders.
+//! What follows between points in time from a set of orders, in rows of bits.
 #![tactic(auto)]
 
 mod closure;
+mod columns;
 mod edges;
+mod filling;
 mod links;
 mod numbers;
-mod search;
+mod rows;
 mod steps;
-#[cfg(test)]
-mod tests;
+mod turns;
 
 pub use closure::Closure;
+pub use columns::Columns;
 pub use edges::{EdgeWalk, Edges};
 pub use numbers::{number, point_at};
 pub use order_laws::Reach;

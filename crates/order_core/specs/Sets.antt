@@ -1,5 +1,6 @@
 -- What contracts see of a set of orders, and what every set keeps.
 use Rattle.std.specs.Prelude.{zero, suc, ℕ, ◌+◌, ◌-◌, ◌<◌, ◌≤◌, ◌^◌, ◌<ℤ◌, ◌-ℤ◌, ℤ, pos, true, List, [], ◌∷◌, ◌++◌, length, slice_index_or}
+use Rattle.std.specs.List.{All}
 use Rattle.order_laws.specs.declared.Point.TheVariants.{Start, End, Date}
 use Rattle.order_laws.specs.declared.By.TheVariants.{Extent, Dates}
 use Rattle.order_laws.specs.declared.Order.{Order}
@@ -10,6 +11,10 @@ pub record Orders : Type 0 where
   pub extents : ℕ
   pub dates : List ℤ
   pub list : List Order
+
+-- each of the numbers is that of an extent
+abbrev pub AreExtents : ℕ → List ℕ → Type 0
+AreExtents extents numbers = All (λ k. k < extents) numbers
 
 -- each date lies strictly between -2^100 and 2^100
 abbrev pub AreInstants : List ℤ → Type 0

@@ -5,13 +5,13 @@ mod lists;
 mod placing;
 mod primitives;
 mod set;
+mod sides;
 mod statements;
-#[cfg(test)]
-mod tests;
 
 pub use lists::{Dates, OrderList, Placing};
 pub use order_laws::{By, Order, Point, Position};
 pub use placing::holds_at;
 pub use primitives::{Primitive, points};
 pub use set::OrderSet;
+pub use sides::Side;
 pub use statements::{are_ascending, are_in_range, are_instants, completed_set, is_in_range};

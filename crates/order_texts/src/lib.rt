@@ -3,8 +3,6 @@
 
 mod lines;
 mod printing;
-#[cfg(test)]
-mod tests;
 
 pub use lines::{
     append_chain, append_count, append_date, append_order, append_placing, append_point,

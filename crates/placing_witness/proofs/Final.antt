@@ -18,7 +18,7 @@ use Rattle.order_core.specs.Sets.{Orders}
 use Rattle.order_closure.specs.Closures.{Closed, IsClosureOf, between}
 use Rattle.placing_witness.specs.declared.delays.Delay.{Delay}
 use Rattle.placing_witness.specs.Delays.{delayed_at}
-use Rattle.placing_witness.specs.Prepared.{lower_row, IsPrepared, IsDelay, delayed_positions}
+use Rattle.placing_witness.specs.Prepared.{lower_row, IsBehind, IsBaseOf, IsPrepared, IsDelay, delayed_positions}
 use Rattle.placing_witness.proofs.Delayed.{delayed_is}
 use Rattle.placing_witness.proofs.InRange.{length_points}
 use Rattle.placing_witness.proofs.Sharing.{list_is, length-rows, length-lower}
@@ -58,66 +58,76 @@ module _ (set : Orders) (closure : Closed) (closed : IsClosureOf set closure) (c
       ∙ ap (λ r. widened (reach_between set.list x y) r (between closure y z)) (same_entry x z in_x in_z)
       ∙ ap (λ r. widened (reach_between set.list x y) (reach_between set.list x z) r) (same_entry y z in_y in_z))
 
-pub delaying_is : (set : Orders) (closure : Closed) (points : List Point) (floors : List ℕ) (words : ℕ) (lower : List ℕ) (positions : List Position) (x : Point) (delay : Delay) (row : List Reach) →
-    IsPrepared set closure points floors words lower positions → IsPoint set.extents (length set.dates) x → IsDelay set.dates (between closure) points words x delay →
-    row ≡ map (λ q. between closure x q) points →
-    delayed_positions delay row floors words lower positions (length positions) ≡ delaying_placing set.list set.extents set.dates x
-delaying_is set closure points floors words lower positions x delay row p in_x fits is_row =
+pub boundaries_in : (set : Orders) (points : List Point) → points ≡ all_points set.extents (length set.dates) → 2 * set.extents ≤ length points
+boundaries_in set points listed = omega (arith, length_points points set.extents (length set.dates) listed)
+
+pub delaying_is : (set : Orders) (closure : Closed) (points : List Point) (floors : List ℕ) (positions : List Position) (x : Point) (delay : Delay) (row : List Reach) (counts : List ℕ) →
+    IsBaseOf set closure points floors positions → IsPoint set.extents (length set.dates) x → IsDelay set.dates (between closure) points x delay →
+    row ≡ map (λ q. between closure x q) points → length counts ≡ length positions → IsBehind (between closure) points row counts →
+    delayed_positions delay row floors counts positions (length positions) ≡ delaying_placing set.list set.extents set.dates x
+delaying_is set closure points floors positions x delay row counts p in_x fits is_row enough behind =
     let count : ℕ = 2 * set.extents in
     let long : count ≤ length points = omega (arith, ap length p.listed, length-append (boundaries set.extents) (date_points (length set.dates)), length-boundaries set.extents) in
     let size : length positions ≡ count = ap length p.placed ∙ length-map (take count points) (built_at set.extents set.dates (between closure)) ∙ length-take-le count points long in
-    ap (delayed_positions delay row floors words lower positions) size
-    ∙ ap (λ r. delayed_positions delay r floors words lower positions count) is_row
-    ∙ ap (λ f. delayed_positions delay (map (λ q. between closure x q) points) f words lower positions count) p.floored
-    ∙ ap (λ l. delayed_positions delay (map (λ q. between closure x q) points) (map (floor_of (between closure) (length set.dates)) points) words l positions count) p.lowered
-    ∙ ap (λ q. delayed_positions delay (map (λ q. between closure x q) points) (map (floor_of (between closure) (length set.dates)) points) words (flat_map (lower_row (between closure) points words) (take count points)) q count) p.placed
-    ∙ list_is set.dates set.extents (between closure) points words x delay fits p.listed p.enough count count long (omega arith)
+    let P : List Reach → Type 0 = λ r. IsBehind (between closure) points r counts in
+    ap (delayed_positions delay row floors counts positions) size
+    ∙ ap (λ r. delayed_positions delay r floors counts positions count) is_row
+    ∙ ap (λ f. delayed_positions delay (map (λ q. between closure x q) points) f counts positions count) p.floored
+    ∙ ap (λ q. delayed_positions delay (map (λ q. between closure x q) points) (map (floor_of (between closure) (length set.dates)) points) counts q count) p.placed
+    ∙ list_is set.dates set.extents (between closure) points x delay fits p.listed counts count count (subst P is_row behind) long (omega (arith, enough, size)) (omega arith)
     ∙ ap (λ ps. map (delayed_at set.extents set.dates (between closure) x) (take count ps)) p.listed
     ∙ ap (map (delayed_at set.extents set.dates (between closure) x)) (boundaries_first set.extents (length set.dates))
     ∙ delayed_everywhere set closure p.closed p.consistent x in_x
+
+pub positions_size : (set : Orders) (closure : Closed) (points : List Point) (floors : List ℕ) (positions : List Position) →
+    IsBaseOf set closure points floors positions → length positions ≡ 2 * set.extents
+positions_size set closure points floors positions p =
+    ap length p.placed ∙ length-map (take (2 * set.extents) points) (built_at set.extents set.dates (between closure))
+    ∙ length-take-le (2 * set.extents) points (boundaries_in set points p.listed)
 
 pub lower_size : (set : Orders) (closure : Closed) (points : List Point) (floors : List ℕ) (words : ℕ) (lower : List ℕ) (positions : List Position) →
     IsPrepared set closure points floors words lower positions → length lower ≡ length positions * words
 lower_size set closure points floors words lower positions p =
     let some : List Point = take (2 * set.extents) points in
-    let count : length positions ≡ length some = ap length p.placed ∙ length-map some (built_at set.extents set.dates (between closure)) in
+    let count : length positions ≡ length some = ap length p.base.placed ∙ length-map some (built_at set.extents set.dates (between closure)) in
     ap length p.lowered ∙ length-rows (lower_row (between closure) points words) words (length-lower (between closure) points words) some ∙ ap (λ k. k * words) (sym count)
 
-pub boundaries_in : (set : Orders) (points : List Point) → points ≡ all_points set.extents (length set.dates) → 2 * set.extents ≤ length points
-boundaries_in set points listed = omega (arith, length_points points set.extents (length set.dates) listed)
-
-pub prepared_is : (set : Orders) (closure : Closed) (points : List Point) (floors : List ℕ) (words : ℕ) (lower : List ℕ) (positions : List Position)
-    (dates : List ℤ) (a b : List Point) (boundaries : ℕ) →
+pub base_is : (set : Orders) (closure : Closed) (points : List Point) (floors : List ℕ) (positions : List Position) (dates : List ℤ) (a b : List Point) (boundaries : ℕ) →
     IsClosureOf set closure → (HasCycle set.list → ⊥) → dates ≡ set.dates → points ≡ all_points set.extents (length set.dates) → a ≡ points → b ≡ points →
-    floors ≡ map (floor_of (between closure) (length dates)) a → words ≤ 2 ^ 20 → length points ≤ 64 * words → boundaries ≡ 2 * set.extents →
-    positions ≡ map (built_at closure.extents dates (between closure)) (take boundaries b) →
-    lower ≡ flat_map (lower_row (between closure) b words) (take boundaries b) → IsPrepared set closure points floors words lower positions
-prepared_is set closure points floors words lower positions dates a b boundaries closed consistent same_dates listed is_a is_b floored few enough count placed lowered = record {
+    floors ≡ map (floor_of (between closure) (length set.dates)) a → boundaries ≡ 2 * set.extents →
+    positions ≡ map (built_at closure.extents dates (between closure)) (take boundaries b) → IsBaseOf set closure points floors positions
+base_is set closure points floors positions dates a b boundaries closed consistent same_dates listed is_a is_b floored count placed = record {
   closed = closed;
   consistent = consistent;
   listed = listed;
-  floored = floored ∙ ap (λ d. map (floor_of (between closure) (length d)) a) same_dates ∙ ap (map (floor_of (between closure) (length set.dates))) is_a;
-  few = few;
-  enough = enough;
-  lowered = lowered ∙ ap (λ ps. flat_map (lower_row (between closure) ps words) (take boundaries ps)) is_b
-      ∙ ap (λ k. flat_map (lower_row (between closure) points words) (take k points)) count;
+  floored = floored ∙ ap (map (floor_of (between closure) (length set.dates))) is_a;
   placed = placed ∙ ap (λ ps. map (built_at closure.extents dates (between closure)) (take boundaries ps)) is_b
       ∙ ap (λ k. map (built_at closure.extents dates (between closure)) (take k points)) count
       ∙ ap (λ d. map (built_at closure.extents d (between closure)) (take (2 * set.extents) points)) same_dates
       ∙ ap (λ e. map (built_at e set.dates (between closure)) (take (2 * set.extents) points)) closed.extents;
 }
 
+pub prepared_is : (set : Orders) (closure : Closed) (points : List Point) (floors : List ℕ) (words : ℕ) (lower : List ℕ) (positions : List Position) (a : List Point) (boundaries : ℕ) →
+    IsBaseOf set closure points floors positions → words ≤ 2 ^ 20 → length points ≤ 64 * words → a ≡ points → boundaries ≡ 2 * set.extents →
+    lower ≡ flat_map (lower_row (between closure) a words) (take boundaries a) → IsPrepared set closure points floors words lower positions
+prepared_is set closure points floors words lower positions a boundaries base few enough is_a count lowered = record {
+  base = base;
+  few = few;
+  enough = enough;
+  lowered = lowered ∙ ap (λ ps. flat_map (lower_row (between closure) ps words) (take boundaries ps)) is_a
+      ∙ ap (λ k. flat_map (lower_row (between closure) points words) (take k points)) count;
+}
+
 -- the same with what stands behind each reference
-pub placed_is : (set : Orders) (closure : Closed) (points : List Point) (floors : List ℕ) (words : ℕ) (lower : List ℕ) (positions : List Position) (x : Point) (delay : Delay) (row : List Reach)
-    (dates : List ℤ) (a b : List Point) (row_kept : List Reach) (floors_kept lower_kept : List ℕ) (positions_kept : List Position) →
-    IsPrepared set closure points floors words lower positions → IsPoint set.extents (length set.dates) x → dates ≡ set.dates → a ≡ points → b ≡ points →
-    IsDelay dates (between closure) b words x delay → row ≡ map (λ q. between closure x q) a → row_kept ≡ row → floors_kept ≡ floors → lower_kept ≡ lower → positions_kept ≡ positions →
-    delayed_positions delay row_kept floors_kept words lower_kept positions_kept (length positions_kept) ≡ delaying_placing set.list set.extents set.dates x
-placed_is set closure points floors words lower positions x delay row dates a b row_kept floors_kept lower_kept positions_kept p in_x same_dates is_a is_b fits is_row same_row same_floors same_lower same_positions =
-    let P : List ℤ → Type 0 = λ d. IsDelay d (between closure) b words x delay in
-    let Q : List Point → Type 0 = λ ps. IsDelay set.dates (between closure) ps words x delay in
-    ap (λ r. delayed_positions delay r floors_kept words lower_kept positions_kept (length positions_kept)) same_row
-    ∙ ap (λ f. delayed_positions delay row f words lower_kept positions_kept (length positions_kept)) same_floors
-    ∙ ap (λ l. delayed_positions delay row floors words l positions_kept (length positions_kept)) same_lower
-    ∙ ap (λ q. delayed_positions delay row floors words lower q (length q)) same_positions
-    ∙ delaying_is set closure points floors words lower positions x delay row p in_x (subst Q is_b (subst P same_dates fits)) (is_row ∙ ap (map (λ q. between closure x q)) is_a)
+pub placed_is : (set : Orders) (closure : Closed) (points : List Point) (floors : List ℕ) (positions : List Position) (x : Point) (delay : Delay) (row : List Reach) (counts : List ℕ)
+    (dates : List ℤ) (a : List Point) (floors_kept : List ℕ) (positions_kept : List Position) →
+    IsBaseOf set closure points floors positions → IsPoint set.extents (length set.dates) x → dates ≡ set.dates → a ≡ points →
+    IsDelay dates (between closure) a x delay → row ≡ map (λ q. between closure x q) points → length counts ≡ length positions →
+    IsBehind (between closure) points row counts → floors_kept ≡ floors → positions_kept ≡ positions →
+    delayed_positions delay row floors_kept counts positions_kept (length positions_kept) ≡ delaying_placing set.list set.extents set.dates x
+placed_is set closure points floors positions x delay row counts dates a floors_kept positions_kept p in_x same_dates is_a fits is_row size behind same_floors same_positions =
+    let P : List ℤ → Type 0 = λ d. IsDelay d (between closure) a x delay in
+    let Q : List Point → Type 0 = λ ps. IsDelay set.dates (between closure) ps x delay in
+    ap (λ f. delayed_positions delay row f counts positions_kept (length positions_kept)) same_floors
+    ∙ ap (λ q. delayed_positions delay row floors counts q (length q)) same_positions
+    ∙ delaying_is set closure points floors positions x delay row counts p in_x (subst Q is_a (subst P same_dates fits)) is_row size behind

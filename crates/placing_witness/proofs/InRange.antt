@@ -16,7 +16,7 @@ point_in_range points extents dates n d same h =
     let P : List Point → Type 0 = λ xs. Among (get_or points n d) xs in
     in_range extents dates (get_or points n d) (subst P same (among_at points n d h))
 
-length_dates : (dates : ℕ) → length (date_points dates) ≡ dates
+pub length_dates : (dates : ℕ) → length (date_points dates) ≡ dates
 length_dates zero = refl
 length_dates (suc dates) = omega (arith, length-append (date_points dates) (Date dates ∷ []), length_dates dates)
 

@@ -1,8 +1,9 @@
 // Rows of bits that say which entries of a row are strict, 64 to a word.
-ghost use Rattle.std.specs.Prelude.{◌≡◌, ◌+◌, ◌*◌, ◌≤◌, ◌^◌, ◌++◌, cond, length, OnOk};
+ghost use Rattle.std.specs.Prelude.{◌≡◌, ℕ, ◌+◌, ◌*◌, ◌<◌, ◌≤◌, ◌^◌, ◌++◌, cond, length, slice_index_or, slice_range, OnOk};
 ghost use Rattle.order_laws.specs.Tables.{is_strict};
 ghost use Rattle.placing_witness.specs.Bits.{entry_at, word_at, words_of, set_in_both};
 
+use crate::floors::is_strict;
 use order_laws::Reach;
 use std::alloc::AllocError;
 
@@ -53,4 +54,25 @@ pub fn count_both(xs: &[u64], ys: &[u64]) -> u32
         count += (xs[n] & ys[n]).count_ones();
     }
     count
+}
+
+/// Sets of each boundary behind x the count of points between x and it, from the bits of the points
+/// behind x and of those before each.
+pub fn share(counts: &mut [u32], row: &[Reach], after: &[u64], lower: &[u64], words: usize)
+    requires row { length counts.old ≤ length row.now }
+    requires after { length after.now ≡ words }
+    requires lower { length lower.now ≡ length counts.old * words }
+    requires words { words ≤ 2 ^ 20 }
+    requires few { length counts.old ≤ 2 ^ 22 }
+    ensures size { length counts.new ≡ length counts.old }
+    ensures shared { (n : ℕ) → n < length counts.old → slice_index_or counts.new n 0 ≡ cond (is_strict (entry_at row.now n)) (set_in_both after.now (slice_range lower.now (n * words) ((n + 1) * words)) words) 0 }
+    ensures few { (n : ℕ) → n < length counts.old → slice_index_or counts.new n 0 ≤ 64 * words }
+{
+    for n in 0..counts.len() {
+        counts[n] = if is_strict(row[n]) {
+            count_both(after, &lower[n * words..(n + 1) * words])
+        } else {
+            0
+        };
+    }
 }

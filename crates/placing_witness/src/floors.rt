@@ -1,11 +1,13 @@
 // Floors of points: the last date that is known to be at or before each.
 ghost use Rattle.std.specs.Prelude.{◌≡◌, ◌≤◌, ◌^◌, IfOk, map, length};
 ghost use Rattle.order_laws.specs.Tables.{IsPoint, all_points, floor_of, floor_instant, is_known, is_strict};
-ghost use Rattle.order_closure.specs.Closures.{between};
+ghost use Rattle.order_closure.specs.Closures.{IsClosureOf, between};
 ghost use Rattle.order_core.specs.Sets.{AreInstants};
 ghost use Rattle.placing_witness.specs.Delays.{delay_of};
 
+use crate::tallies::raise;
 use order_closure::Closure;
+use order_core::OrderSet;
 use order_laws::{Point, Reach};
 use std::alloc::{AllocError, Global};
 
@@ -29,37 +31,26 @@ pub fn is_strict(reach: Reach) -> bool
     }
 }
 
-// One more than the number of the last date that is known to be at or before the point; 0 where none is.
-fn floor(closure: &Closure, dates: u32, point: Point) -> u32
-    requires dates { dates ≡ closure.now.dates }
-    requires in_range { IsPoint closure.now.extents closure.now.dates point }
-    ensures { result ≡ floor_of (between closure.now) dates point }
-{
-    let mut floor = 0;
-    for k in 0..dates {
-        if is_known(closure.between(Point::Date(k), point)) {
-            floor = k + 1;
-        }
-    }
-    floor
-}
-
-/// The floors of all points.
+/// The floors of all points: one more than the number of the last date that is known to be at or before
+/// each; 0 where none is.
 pub fn floors(
     alloc: Global,
+    set: &OrderSet,
     closure: &Closure,
-    dates: u32,
     points: &[Point],
 ) -> Result<Vec<u32>, AllocError>
-    requires dates { dates ≡ closure.now.dates }
+    requires closure { IsClosureOf set.now closure.now }
     requires points { points.now ≡ all_points closure.now.extents closure.now.dates }
-    ensures { IfOk result (λ floors. floors.items ≡ map (floor_of (between closure.now) dates) points.now) }
+    ensures { IfOk result (λ floors. floors.items ≡ map (floor_of (between closure.now) (length set.now.dates)) points.now) }
 {
-    let mut floors = Vec::new(alloc);
-    for n in 0..points.len() {
-        floors.push(floor(closure, dates, points[n]))?;
+    set.conditions();
+    let dates = set.dates().len() as u32;
+    let mut kept = vec![in alloc; 0; points.len()]?;
+    let floors = kept.as_mut_slice();
+    for k in 0..dates {
+        raise(floors, closure.le_row(Point::Date(k)), k + 1);
     }
-    Ok(floors)
+    Ok(kept)
 }
 
 /// The floor up to which x delays what it reaches: one more than the number of the last date that x is

@@ -5,13 +5,13 @@
 //! boundary x puts before x whatever does not have to follow it, and on x whatever may be at x.
 #![tactic(auto)]
 
+mod base;
 mod bits;
 mod delays;
 mod floors;
 mod placings;
 mod ranks;
 mod rows;
-#[cfg(test)]
-mod tests;
+mod tallies;
 
 pub use placings::{Placings, delaying, plain};

@@ -1,60 +1,41 @@
 // The plain placing and the delaying placings of a set of orders.
-ghost use Rattle.std.specs.Prelude.{◌≡◌, ◌≤◌, ◌<◌, ◌+◌, ◌*◌, ◌^◌, IfOk, map, flat_map, take, length};
+ghost use Rattle.std.specs.Prelude.{◌≡◌, ℕ, ◌≤◌, ◌<◌, ◌+◌, ◌*◌, ◌^◌, IfOk, cond, flat_map, take, length, slice_index_or, slice_range};
 ghost use Rattle.order_laws.specs.Chains.{HasCycle};
-ghost use Rattle.order_laws.specs.Tables.{IsPoint, all_points, floor_of, built_at};
+ghost use Rattle.order_laws.specs.Tables.{IsPoint, is_strict, all_points};
 ghost use Rattle.order_laws.specs.Wider.{plain_placing, delaying_placing};
-ghost use Rattle.order_core.specs.Sets.{AreInstants};
 ghost use Rattle.order_closure.specs.Closures.{IsClosureOf, between};
+ghost use Rattle.placing_witness.specs.Bits.{entry_at, words_of, set_in_both};
 ghost use Rattle.placing_witness.specs.Prepared.{lower_row};
 
-use crate::bits::pack;
-use crate::delays::{delays, positions};
-use crate::floors::{floors, instant};
-use crate::ranks::count_below;
-use crate::rows::{column_to, points, row_from};
+use crate::base::{Base, delay_from, prepare};
+use crate::bits::{pack, share};
+use crate::ranks::count_between;
+use crate::rows::{column_to, row_from};
 use order_closure::Closure;
 use order_core::{OrderSet, Placing};
-use order_laws::{Point, Position};
+use order_laws::{Point, Reach};
 use std::alloc::{AllocError, Global};
 use std::marker::Model;
 
-// The plain positions of the boundaries, and the points below each, as bits.
-#[derive(Drop)]
-struct PlainRows {
-    positions: Vec<Position>,
-    lower: Vec<u64>,
-}
-
-fn plain_positions(
+// The points below each boundary, as bits.
+fn lower_rows(
     alloc: Global,
-    dates: &[i128],
     closure: &Closure,
     points: &[Point],
     boundaries: usize,
-    floors: &[u32],
     words: usize,
-) -> Result<PlainRows, AllocError>
-    requires instants { AreInstants dates.now }
-    requires dates { length dates.now ≡ closure.now.dates }
+) -> Result<Vec<u64>, AllocError>
     requires points { points.now ≡ all_points closure.now.extents closure.now.dates }
-    requires few { length points.now ≤ 2 ^ 22 }
     requires boundaries { boundaries ≤ length points.now }
-    requires floors { floors.now ≡ map (floor_of (between closure.now) (length dates.now)) points.now }
     requires words { words ≤ 2 ^ 20 }
-    ensures positions { IfOk result (λ p. p.positions.items ≡ map (built_at closure.now.extents dates.now (between closure.now)) (take boundaries points.now)) }
-    ensures lower { IfOk result (λ p. p.lower.items ≡ flat_map (lower_row (between closure.now) points.now words) (take boundaries points.now)) }
+    ensures { IfOk result (λ lower. lower.items ≡ flat_map (lower_row (between closure.now) points.now words) (take boundaries points.now)) }
 {
-    let mut positions = Vec::with_capacity(alloc, boundaries)?;
     let mut lower = Vec::new(alloc);
     for n in 0..boundaries {
         let column = column_to(alloc, closure, points, points[n])?;
         pack(&column, words, &mut lower)?;
-        positions.push(Position {
-            instant: instant(dates, floors[n]),
-            rank: count_below(&column, floors, floors[n]),
-        })?;
     }
-    Ok(PlainRows { positions, lower })
+    Ok(lower)
 }
 
 /// What the placings of one set share, made once for all of them.
@@ -64,11 +45,9 @@ fn plain_positions(
 pub struct Placings<'a> {
     set: &'a OrderSet,
     closure: &'a Closure,
-    points: Vec<Point>,
-    floors: Vec<u32>,
+    base: Base,
     words: usize,
     lower: Vec<u64>,
-    positions: Vec<Position>,
 }
 
 impl<'a> Model for Placings<'a> {
@@ -79,7 +58,30 @@ impl<'a> Model for Placings<'a> {
 
     ghost view = { λ p. p.set.now };
 
-    ghost invariant = { λ p. IsPrepared p.set.now p.closure.now p.points.items p.floors.items p.words p.lower.items p.positions.items };
+    ghost invariant = { λ p. IsPrepared p.set.now p.closure.now p.base.points.items p.base.floors.items p.words p.lower.items p.base.positions.items };
+}
+
+// The counts of the points between x and each boundary behind x, from the points below each.
+fn shared_counts(
+    alloc: Global,
+    row: &[Reach],
+    boundaries: usize,
+    words: usize,
+    lower: &[u64],
+) -> Result<Vec<u32>, AllocError>
+    requires row { boundaries ≤ length row.now }
+    requires few { boundaries ≤ 2 ^ 22 }
+    requires words { words ≤ 2 ^ 20 }
+    requires lower { length lower.now ≡ boundaries * words }
+    ensures size { IfOk result (λ counts. length counts.items ≡ boundaries) }
+    ensures shared { IfOk result (λ counts. (n : ℕ) → n < boundaries → slice_index_or counts.items n 0 ≡ cond (is_strict (entry_at row.now n)) (set_in_both (words_of row.now words) (slice_range lower.now (n * words) ((n + 1) * words)) words) 0) }
+    ensures few { IfOk result (λ counts. (n : ℕ) → n < boundaries → slice_index_or counts.items n 0 ≤ 64 * words) }
+{
+    let mut after = Vec::with_capacity(alloc, words)?;
+    pack(row, words, &mut after)?;
+    let mut kept = vec![in alloc; 0; boundaries]?;
+    share(kept.as_mut_slice(), row, &after, lower, words);
+    Ok(kept)
 }
 
 impl<'a> Placings<'a> {
@@ -94,20 +96,16 @@ impl<'a> Placings<'a> {
         ensures { IfOk result (λ p. p ≡ set.now) }
     {
         set.conditions();
-        let dates = set.dates().as_slice();
-        let points = points(alloc, set.extents(), dates.len() as u32)?;
-        let floors = floors(alloc, closure, dates.len() as u32, &points)?;
-        let words = points.len().div_ceil(64);
+        let base = prepare(alloc, set, closure)?;
+        let words = base.points.len().div_ceil(64);
         let boundaries = 2 * set.extents() as usize;
-        let plain = plain_positions(alloc, dates, closure, &points, boundaries, &floors, words)?;
+        let lower = lower_rows(alloc, closure, &base.points, boundaries, words)?;
         Ok(Placings {
             set,
             closure,
-            points,
-            floors,
+            base,
             words,
-            lower: plain.lower,
-            positions: plain.positions,
+            lower,
         })
     }
 
@@ -115,7 +113,7 @@ impl<'a> Placings<'a> {
     pub fn plain(&self, alloc: Global) -> Result<Placing, AllocError>
         ensures { IfOk result (λ p. p ≡ plain_placing self.now.list self.now.extents self.now.dates) }
     {
-        Ok(Placing::from_vec(Vec::from_slice(alloc, &self.positions)?))
+        Ok(Placing::from_vec(Vec::from_slice(alloc, &self.base.positions)?))
     }
 
     /// The delaying placing of the boundary x.
@@ -123,31 +121,11 @@ impl<'a> Placings<'a> {
         requires in_range { IsPoint self.now.extents (length self.now.dates) x }
         ensures { IfOk result (λ p. p ≡ delaying_placing self.now.list self.now.extents self.now.dates x) }
     {
-        let set = self.set;
-        let closure = self.closure;
-        set.conditions();
-        let dates = set.dates().as_slice();
-        let row = row_from(alloc, closure, &self.points, x)?;
-        let delay = delays(
-            alloc,
-            dates,
-            closure,
-            &self.points,
-            &self.floors,
-            self.words,
-            &row,
-            x,
-        )?;
-        let placed = positions(
-            alloc,
-            &delay,
-            &row,
-            &self.floors,
-            self.words,
-            &self.lower,
-            &self.positions,
-        )?;
-        Ok(Placing::from_vec(placed))
+        let base = &self.base;
+        self.set.conditions();
+        let row = row_from(alloc, self.closure, &base.points, x)?;
+        let counts = shared_counts(alloc, &row, base.positions.len(), self.words, &self.lower)?;
+        delay_from(alloc, self.set, self.closure, base, &row, &counts, x)
     }
 }
 
@@ -157,10 +135,12 @@ pub fn plain(alloc: Global, set: &OrderSet, closure: &Closure) -> Result<Placing
     requires consistent { ¬ HasCycle set.now.list }
     ensures { IfOk result (λ p. p ≡ plain_placing set.now.list set.now.extents set.now.dates) }
 {
-    Placings::build(alloc, set, closure)?.plain(alloc)
+    let base = prepare(alloc, set, closure)?;
+    Ok(Placing::from_vec(base.positions))
 }
 
-/// The delaying placing of the boundary x of a set of orders, which have no cycle, from their closure.
+/// The delaying placing of the boundary x of a set of orders, which have no cycle, from their closure: for
+/// a caller that asks for one or two.
 pub fn delaying(
     alloc: Global,
     set: &OrderSet,
@@ -172,5 +152,9 @@ pub fn delaying(
     requires in_range { IsPoint set.now.extents (length set.now.dates) x }
     ensures { IfOk result (λ p. p ≡ delaying_placing set.now.list set.now.extents set.now.dates x) }
 {
-    Placings::build(alloc, set, closure)?.delaying(alloc, x)
+    set.conditions();
+    let base = prepare(alloc, set, closure)?;
+    let row = row_from(alloc, closure, &base.points, x)?;
+    let counts = count_between(alloc, closure, &base.points, base.positions.len(), &row)?;
+    delay_from(alloc, set, closure, &base, &row, &counts, x)
 }

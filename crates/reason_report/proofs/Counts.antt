@@ -4,7 +4,7 @@ use Rattle.std.specs.List.{flat_map}
 use Rattle.std.proofs.lemmas.Grind.{flat_map-append}
 use Rattle.std.proofs.lemmas.List.Sums.{sum_by-append}
 use Rattle.crm_outside.proofs.Lists.{take_one}
-use Rattle.reason_report.specs.declared.sides.Relation.{Relation}
+use Rattle.reason_report.specs.declared.relations.Relation.{Relation}
 use Rattle.reason_report.specs.Relations.{primitives_listed, count_primitives}
 
 pub counts_one : {X : Type 0} (f : X → List Relation) (xs : List X) (k : ℕ) (x : X) → Some x ≡ slice_get xs k

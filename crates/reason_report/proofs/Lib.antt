@@ -1,5 +1,4 @@
 mod PrintedParts
-mod Listed
 mod Counts
 mod Rows
 mod ConsistentText

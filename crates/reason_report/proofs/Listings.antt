@@ -8,10 +8,12 @@ use Rattle.order_laws.specs.declared.Order.{Order}
 use Rattle.order_laws.specs.declared.Reach.{Reach}
 use Rattle.order_laws.specs.declared.Reach.TheVariants.{None as Nothing, Le, Lt}
 use Rattle.order_laws.specs.Tables.{is_known, is_strict}
-use Rattle.reason_report.specs.declared.sides.Side.{Side}
-use Rattle.reason_report.specs.declared.sides.Side.TheVariants.{StartEnd, StartStart, EndStart, EndEnd}
-use Rattle.reason_report.specs.declared.sides.Relation.{Relation}
-use Rattle.reason_report.specs.Relations.{reach_at, relation_by, relation_at, all_sides, relations_between, relations_from, relations_of}
+use Rattle.order_core.specs.declared.sides.Side.{Side}
+use Rattle.order_core.specs.declared.sides.Side.TheVariants.{StartEnd, StartStart, EndStart, EndEnd}
+use Rattle.reason_report.specs.declared.relations.Relation.{Relation}
+use Rattle.order_core.specs.Sides.{all_sides}
+use Rattle.order_analysis.specs.Reasons.{reach_at}
+use Rattle.reason_report.specs.Relations.{relation_by, relation_at, relations_between, relations_from, relations_of}
 use Rattle.reason_report.proofs.Membership.{source_of, element_of}
 
 -- the relation of a side that says what follows

@@ -18,17 +18,18 @@ use Rattle.order_laws.proofs.Closure.{has, entry_follows, follows_entry}
 use Rattle.order_laws.proofs.Hold.{cycle_refutes}
 use Rattle.order_laws.proofs.Loops.{loop_is_first, cycle_decided}
 use Rattle.order_laws.proofs.Placed.{consistent}
-use Rattle.order_core.specs.Primitives.{points_of}
+use Rattle.order_core.specs.Primitives.{points_of, side_of}
 use Rattle.order_core.specs.declared.primitives.Primitive.{Primitive}
-use Rattle.order_core.specs.declared.primitives.Primitive.TheVariants.{P173, P174, P175, P176, P182, P183, P184, P185}
-use Rattle.reason_report.specs.declared.sides.Side.{Side}
-use Rattle.reason_report.specs.declared.sides.Side.TheVariants.{StartEnd, StartStart, EndStart, EndEnd}
-use Rattle.reason_report.specs.declared.sides.Relation.{Relation}
+use Rattle.order_core.specs.declared.sides.Side.{Side}
+use Rattle.order_core.specs.declared.sides.Side.TheVariants.{StartEnd, StartStart, EndStart, EndEnd}
+use Rattle.reason_report.specs.declared.relations.Relation.{Relation}
 use Rattle.reason_report.specs.Answers.{is_enough, is_following}
-use Rattle.reason_report.specs.Listings.{side_of, IsListed}
-use Rattle.reason_report.specs.Reason.{reason_of}
-use Rattle.reason_report.specs.Relations.{left_point, right_point, reach_at, relations_of}
-use Rattle.reason_report.specs.Subjects.{AreExtents}
+use Rattle.reason_report.specs.Listings.{IsListed}
+use Rattle.order_analysis.specs.Reasons.{reason_of}
+use Rattle.order_core.specs.Sides.{left_point, right_point}
+use Rattle.order_analysis.specs.Reasons.{reach_at}
+use Rattle.reason_report.specs.Relations.{relations_of}
+use Rattle.order_core.specs.Sets.{AreExtents}
 use Rattle.reason_report.proofs.Listings.{relation_with, one_of, there}
 
 pub extent_of : (extents : ℕ) (periods : List ℕ) (a : ℕ) → AreExtents extents periods → Contains periods a → a < extents
@@ -44,18 +45,6 @@ pub enough_has : (strict : Bool) (r : Reach) → is_enough strict r ≡ has stri
 enough_has true r = refl
 enough_has false r = refl
 
--- the points of a primitive are those of its side
-pub sides_reach : (orders : List Order) (p : Primitive) (a b : ℕ)
-    → reach_at orders a b (side_of p) ≡ reach_between orders (points_of p a b).0 (points_of p a b).1
-sides_reach orders P173 a b = refl
-sides_reach orders P174 a b = refl
-sides_reach orders P175 a b = refl
-sides_reach orders P176 a b = refl
-sides_reach orders P182 a b = refl
-sides_reach orders P183 a b = refl
-sides_reach orders P184 a b = refl
-sides_reach orders P185 a b = refl
-
 -- what a relation says of its strictness and a flag that it meets
 met : (r : Relation) (reach : Reach) → r.strict ≡ is_strict reach → is_known reach ≡ true → (strict : Bool) → (strict ≡ true → r.strict ≡ true) → has strict reach ≡ true
 met r reach says known false h = known
@@ -70,7 +59,7 @@ listed_follows orders periods a p b l =
     let side : one.shown.side ≡ side_of p = sym (ap (λ (r : Relation). r.side) one.shown.says) ∙ l.side in
     let reach : reach_at orders one.left one.right one.shown.side ≡ reach_between orders (points_of p a b).0 (points_of p a b).1 =
     ap (λ (k : ℕ). reach_at orders k one.right one.shown.side) left ∙ ap (λ (k : ℕ). reach_at orders a k one.shown.side) right
-    ∙ ap (reach_at orders a b) side ∙ sides_reach orders p a b in
+    ∙ ap (reach_at orders a b) side in
     let strict : l.relation.strict ≡ is_strict (reach_at orders one.left one.right one.shown.side) = ap (λ (r : Relation). r.strict) one.shown.says in
     entry_follows orders (points_of p a b).0 (points_of p a b).1 (points_of p a b).2
     (met l.relation (reach_between orders (points_of p a b).0 (points_of p a b).1) (strict ∙ ap is_strict reach)
@@ -81,7 +70,7 @@ pub follows_listed : (orders : List Order) (periods : List ℕ) (a : ℕ) (p : P
 follows_listed orders periods a p b in_a in_b apart f =
     let entry : has (points_of p a b).2 (reach_between orders (points_of p a b).0 (points_of p a b).1) ≡ true =
     follows_entry orders (points_of p a b).0 (points_of p a b).1 (points_of p a b).2 f in
-    let here : has (points_of p a b).2 (reach_at orders a b (side_of p)) ≡ true = ap (has (points_of p a b).2) (sides_reach orders p a b) ∙ entry in
+    let here : has (points_of p a b).2 (reach_at orders a b (side_of p)) ≡ true = entry in
     record {
       relation = relation_with orders a b (side_of p);
       among = there orders periods a b (side_of p) in_a in_b apart (known_of (points_of p a b).2 (reach_at orders a b (side_of p)) here);
@@ -130,16 +119,6 @@ listed_chain orders periods r h =
     (reason_there orders x y
     (chain_found orders x y (apart_points one.shown.side one.left one.right one.apart) one.shown.known (is_strict (reach_between orders x y)) refl))
 
-points_apart : (p : Primitive) (a b : ℕ) → a ≢ b → (points_of p a b).0 ≡ (points_of p a b).1 → ⊥
-points_apart P173 a b apart e = apart_points StartEnd a b apart e
-points_apart P174 a b apart e = apart_points StartEnd a b apart e
-points_apart P175 a b apart e = apart_points StartStart a b apart e
-points_apart P176 a b apart e = apart_points StartStart a b apart e
-points_apart P182 a b apart e = apart_points EndStart a b apart e
-points_apart P183 a b apart e = apart_points EndStart a b apart e
-points_apart P184 a b apart e = apart_points EndEnd a b apart e
-points_apart P185 a b apart e = apart_points EndEnd a b apart e
-
 pub answer_chain : (orders : List Order) (a : ℕ) (p : Primitive) (b : ℕ) → a ≢ b → is_following orders a p b ≡ true
     → IsChainOf orders (points_of p a b).0 (points_of p a b).1 (reason_of orders (points_of p a b).0 (points_of p a b).1)
 answer_chain orders a p b apart e =
@@ -147,7 +126,7 @@ answer_chain orders a p b apart e =
     let y : Point = (points_of p a b).1 in
     let known : is_known (reach_between orders x y) ≡ true =
     known_of (points_of p a b).2 (reach_between orders x y) (sym (enough_has (points_of p a b).2 (reach_between orders x y)) ∙ e) in
-    reason_there orders x y (chain_found orders x y (points_apart p a b apart) known (is_strict (reach_between orders x y)) refl)
+    reason_there orders x y (chain_found orders x y (apart_points (side_of p) a b apart) known (is_strict (reach_between orders x y)) refl)
 
 loop_option : (o : Option Point) → (o ≡ None) ⊎ ((x : Point) × (o ≡ Some x))
 loop_option None = inl refl

@@ -7,23 +7,14 @@ use Rattle.order_laws.specs.declared.Reach.{Reach}
 use Rattle.order_laws.specs.Closure.{reach_between}
 use Rattle.order_laws.specs.Tables.{is_known, is_strict}
 use Rattle.order_core.specs.Sets.{Orders}
-use Rattle.order_core.specs.Primitives.{points_of}
+use Rattle.order_core.specs.Primitives.{points_of, code_of}
 use Rattle.order_core.specs.declared.primitives.Primitive.{Primitive}
-use Rattle.order_core.specs.declared.primitives.Primitive.TheVariants.{P173, P174, P175, P176, P182, P183, P184, P185}
 use Rattle.order_texts.specs.Texts.{chain_text, order_line}
 use Rattle.reason_report.specs.declared.answers.Answer.{Answer}
 use Rattle.reason_report.specs.declared.answers.Answer.TheVariants.{Holds, Fails, Inconsistent}
-use Rattle.reason_report.specs.Reason.{reason_of, delay_line, cycle_of, text_by}
-
-abbrev pub code_of : Primitive → List ℕ
-code_of P173 = codes "P173"
-code_of P174 = codes "P174"
-code_of P175 = codes "P175"
-code_of P176 = codes "P176"
-code_of P182 = codes "P182"
-code_of P183 = codes "P183"
-code_of P184 = codes "P184"
-code_of P185 = codes "P185"
+use Rattle.order_analysis.specs.Reasons.{reason_of}
+use Rattle.order_analysis.specs.Subjects.{cycle_of}
+use Rattle.reason_report.specs.Reason.{delay_line, text_by}
 
 -- what is known says enough: `<` where the flag is set, else `<=`
 abbrev pub is_enough : Bool → Reach → Bool

@@ -1,4 +1,3 @@
-pub mod Subjects
 pub mod Relations
 pub mod Reason
 pub mod Answers

@@ -1,39 +1,27 @@
 -- What is printed of the reasons of a set of orders.
-use Rattle.std.specs.Prelude.{ℕ, Bool, List, [], ◌++◌, length, Option, None, Some, unwrap_or, if◌then◌else◌, codes}
+use Rattle.std.specs.Prelude.{ℕ, Bool, true, false, List, ◌++◌, Option, None, Some, if◌then◌else◌, codes}
 use Rattle.std.specs.List.{flat_map}
 use Rattle.std.specs.Fmt.{decimal}
 use Rattle.order_laws.specs.declared.Order.{Order}
 use Rattle.order_laws.specs.declared.Point.{Point}
 use Rattle.order_laws.specs.declared.Point.TheVariants.{Start, End}
-use Rattle.order_laws.specs.ChainSearch.{chain_of, first_cycle}
 use Rattle.order_laws.specs.Wider.{plain_placing, delaying_placing}
+use Rattle.order_core.specs.declared.sides.Side.{Side}
+use Rattle.order_core.specs.Primitives.{primitive_of, code_of}
 use Rattle.order_core.specs.Sets.{Orders}
+use Rattle.order_core.specs.Sides.{left_point, right_point}
+use Rattle.order_analysis.specs.Reasons.{reason_of}
+use Rattle.order_analysis.specs.Subjects.{cycle_of}
 use Rattle.order_texts.specs.Texts.{count_line, point_text, chain_text, placing_line}
-use Rattle.reason_report.specs.declared.sides.Side.{Side}
-use Rattle.reason_report.specs.declared.sides.Relation.{Relation}
-use Rattle.reason_report.specs.declared.sides.Side.TheVariants.{StartEnd, StartStart, EndStart, EndEnd}
-use Rattle.reason_report.specs.Relations.{left_point, right_point, relations_between, relations_of, count_primitives}
-
--- the numbers of the orders of the chain from a point to another
-abbrev pub reason_of : List Order → Point → Point → List ℕ
-reason_of orders x y = unwrap_or (chain_of orders x y) []
-
--- the code of the weak primitive of a side, and that of the strict one
-abbrev pub weak_code : Side → List ℕ
-weak_code StartEnd = codes "P173"
-weak_code StartStart = codes "P175"
-weak_code EndStart = codes "P182"
-weak_code EndEnd = codes "P184"
-
-abbrev pub strict_code : Side → List ℕ
-strict_code StartEnd = codes "P174"
-strict_code StartStart = codes "P176"
-strict_code EndStart = codes "P183"
-strict_code EndEnd = codes "P185"
+use Rattle.reason_report.specs.declared.relations.Relation.{Relation}
+use Rattle.reason_report.specs.Relations.{relations_between, relations_of, count_primitives}
 
 -- the codes of the primitives that a relation lists
 abbrev pub side_codes : Side → Bool → List ℕ
-side_codes side strict = if strict then weak_code side ++ (codes " " ++ strict_code side) else weak_code side
+side_codes side strict =
+    if strict
+    then code_of (primitive_of side false) ++ (codes " " ++ code_of (primitive_of side true))
+    else code_of (primitive_of side false)
 
 abbrev pub reason_text : List Order → Point → Point → List ℕ
 reason_text orders x y = chain_text (reason_of orders x y)
@@ -83,10 +71,6 @@ consistent_text set periods =
     ++ (relation_lines set periods
     ++ (flat_map (delay_lines set) periods
     ++ count_line (codes "relations") (count_primitives (relations_of set.list periods)))))
-
--- the first cycle of the orders, if they have one
-abbrev pub cycle_of : Orders → Option (List ℕ)
-cycle_of set = first_cycle set.list set.extents (length set.dates)
 
 abbrev pub text_by : Option (List ℕ) → List ℕ → List ℕ
 text_by None text = text

@@ -2,27 +2,12 @@
 use Rattle.std.specs.Prelude.{ℕ, ◌==◌, true, false, List, [], ◌∷◌, if◌then◌else◌}
 use Rattle.std.specs.List.{flat_map, sum_by}
 use Rattle.order_laws.specs.declared.Order.{Order}
-use Rattle.order_laws.specs.declared.Point.{Point}
-use Rattle.order_laws.specs.declared.Point.TheVariants.{Start, End}
 use Rattle.order_laws.specs.declared.Reach.{Reach}
 use Rattle.order_laws.specs.declared.Reach.TheVariants.{None as Nothing, Le, Lt}
-use Rattle.order_laws.specs.Closure.{reach_between}
-use Rattle.reason_report.specs.declared.sides.Side.{Side}
-use Rattle.reason_report.specs.declared.sides.Relation.{Relation}
-use Rattle.reason_report.specs.declared.sides.Side.TheVariants.{StartEnd, StartStart, EndStart, EndEnd}
-
--- the boundary of the left period, and that of the right one
-abbrev pub left_point : Side → ℕ → Point
-left_point StartEnd a = Start a
-left_point StartStart a = Start a
-left_point EndStart a = End a
-left_point EndEnd a = End a
-
-abbrev pub right_point : Side → ℕ → Point
-right_point StartEnd b = End b
-right_point StartStart b = Start b
-right_point EndStart b = Start b
-right_point EndEnd b = End b
+use Rattle.order_core.specs.declared.sides.Side.{Side}
+use Rattle.order_core.specs.Sides.{all_sides}
+use Rattle.order_analysis.specs.Reasons.{reach_at}
+use Rattle.reason_report.specs.declared.relations.Relation.{Relation}
 
 -- what follows from one boundary to another as a relation, if anything does
 abbrev pub relation_by : ℕ → ℕ → Side → Reach → List Relation
@@ -30,14 +15,8 @@ relation_by a b side Nothing = []
 relation_by a b side Le = record { left = a; right = b; side = side; strict = false } ∷ []
 relation_by a b side Lt = record { left = a; right = b; side = side; strict = true } ∷ []
 
-abbrev pub reach_at : List Order → ℕ → ℕ → Side → Reach
-reach_at orders a b side = reach_between orders (left_point side a) (right_point side b)
-
 abbrev pub relation_at : List Order → ℕ → ℕ → Side → List Relation
 relation_at orders a b side = relation_by a b side (reach_at orders a b side)
-
-abbrev pub all_sides : List Side
-all_sides = StartEnd ∷ StartStart ∷ EndStart ∷ EndEnd ∷ []
 
 -- of two periods, side by side; a period has none to itself
 abbrev pub relations_between : List Order → ℕ → ℕ → List Relation

@@ -2,62 +2,63 @@
 ghost use Rattle.std.specs.Prelude.{◌≡◌, ◌≤◌, ◌<◌, ◌^◌};
 ghost use Rattle.reason_report.specs.Relations as spec;
 
-use crate::basis::Basis;
-use crate::sides::Side;
+use order_analysis::Analysis;
 use order_closure::Reach;
+use order_core::Side;
 
-fn count_side(basis: &Basis, a: u32, b: u32, side: Side) -> u64
-    requires left { a < basis.now.set.extents }
-    requires right { b < basis.now.set.extents }
-    ensures count { result ≡ spec.count_primitives (spec.relation_at basis.now.set.list a b side) }
+fn count_side(analysis: &Analysis, a: u32, b: u32, side: Side) -> u64
+    requires left { a < analysis.now.set.extents }
+    requires right { b < analysis.now.set.extents }
+    ensures count { result ≡ spec.count_primitives (spec.relation_at analysis.now.set.list a b side) }
     ensures few { result ≤ 2 }
 {
-    match basis.closure.between(side.left(a), side.right(b)) {
+    match analysis.between(side.left(a), side.right(b)) {
         Reach::None => 0,
         Reach::Le => 1,
         Reach::Lt => 2,
     }
 }
 
-fn count_pair(basis: &Basis, a: u32, b: u32) -> u64
-    requires left { a < basis.now.set.extents }
-    requires right { b < basis.now.set.extents }
-    ensures count { result ≡ spec.count_primitives (spec.relations_between basis.now.set.list a b) }
+fn count_pair(analysis: &Analysis, a: u32, b: u32) -> u64
+    requires left { a < analysis.now.set.extents }
+    requires right { b < analysis.now.set.extents }
+    ensures count { result ≡ spec.count_primitives (spec.relations_between analysis.now.set.list a b) }
     ensures few { result ≤ 8 }
 {
     if a == b {
         return 0;
     }
-    count_side(basis, a, b, Side::StartEnd)
-        + (count_side(basis, a, b, Side::StartStart)
-            + (count_side(basis, a, b, Side::EndStart) + count_side(basis, a, b, Side::EndEnd)))
+    count_side(analysis, a, b, Side::StartEnd)
+        + (count_side(analysis, a, b, Side::StartStart)
+            + (count_side(analysis, a, b, Side::EndStart)
+                + count_side(analysis, a, b, Side::EndEnd)))
 }
 
-fn count_row(basis: &Basis, a: u32) -> u64
-    requires left { a < basis.now.set.extents }
-    ensures count { result ≡ spec.count_primitives (spec.relations_from basis.now.set.list basis.now.periods a) }
+fn count_row(analysis: &Analysis, a: u32) -> u64
+    requires left { a < analysis.now.set.extents }
+    ensures count { result ≡ spec.count_primitives (spec.relations_from analysis.now.set.list analysis.now.periods a) }
     ensures few { result ≤ 2 ^ 23 }
 {
     let mut count = 0;
-    for i in 0..basis.len() {
-        let Some(b) = basis.period(i) else {
+    for i in 0..analysis.len() {
+        let Some(b) = analysis.period(i) else {
             unreachable!()
         };
-        count += count_pair(basis, a, b);
+        count += count_pair(analysis, a, b);
     }
     count
 }
 
 /// How many primitives are listed between any two of the periods.
-pub fn count_relations(basis: &Basis) -> u64
-    ensures { result ≡ spec.count_primitives (spec.relations_of basis.now.set.list basis.now.periods) }
+pub fn count_relations(analysis: &Analysis) -> u64
+    ensures { result ≡ spec.count_primitives (spec.relations_of analysis.now.set.list analysis.now.periods) }
 {
     let mut count = 0;
-    for i in 0..basis.len() {
-        let Some(a) = basis.period(i) else {
+    for i in 0..analysis.len() {
+        let Some(a) = analysis.period(i) else {
             unreachable!()
         };
-        count += count_row(basis, a);
+        count += count_row(analysis, a);
     }
     count
 }

@@ -5,8 +5,8 @@ ghost use Rattle.order_laws.specs.Tables.{IsPoint};
 ghost use Rattle.crm_outside.specs.Printing.{Prints};
 ghost use Rattle.reason_report.specs.Reason as spec;
 
-use crate::basis::Basis;
 use crm_outside::{PrintFault, Sink, print_text};
+use order_analysis::Analysis;
 use order_core::Point;
 use order_texts::{append_placing, append_point};
 use placing_witness::Placings;
@@ -60,19 +60,19 @@ fn print_both<W: Sink>(
 
 /// Prints the two delaying placings of each period. `line` is a buffer that is written over.
 pub fn print_delays<W: Sink>(
-    basis: &Basis,
+    analysis: &Analysis,
     placings: &Placings,
     line: &mut Vec<u8>,
     out: &mut W,
 ) -> Result<(), PrintFault>
-    requires { placings.now ≡ basis.now.set }
-    ensures { Prints W.written W.faults W.sure out.old out.new (flat_map (spec.delay_lines placings.now) basis.now.periods) result }
+    requires { placings.now ≡ analysis.now.set }
+    ensures { Prints W.written W.faults W.sure out.old out.new (flat_map (spec.delay_lines placings.now) analysis.now.periods) result }
 {
-    for i in 0..basis.len() {
-        let Some(k) = basis.period(i) else {
+    for i in 0..analysis.len() {
+        let Some(k) = analysis.period(i) else {
             unreachable!()
         };
-        print_both(basis.alloc, placings, k, line, out)?;
+        print_both(analysis.alloc(), placings, k, line, out)?;
     }
     Ok(())
 }

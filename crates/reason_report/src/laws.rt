@@ -7,15 +7,16 @@ ghost use Rattle.order_laws.specs.Placings.{IsSatisfied, IsConsistent, AlwaysSta
 ghost use Rattle.order_laws.specs.Positions.{Stand};
 ghost use Rattle.order_laws.specs.Tables.{IsOrderSet};
 ghost use Rattle.order_laws.specs.Wider.{delaying_placing};
-ghost use Rattle.order_core.specs.Sets.{Orders};
+ghost use Rattle.order_core.specs.Sets.{Orders, AreExtents};
+ghost use Rattle.order_core.specs.Sides.{left_point, right_point};
 ghost use Rattle.order_core.specs.Primitives.{points_of};
+ghost use Rattle.order_analysis.specs.Reasons.{reason_of};
+ghost use Rattle.order_analysis.specs.Subjects.{cycle_of};
 ghost use Rattle.order_core.specs.declared.primitives.Primitive.{Primitive};
-ghost use Rattle.reason_report.specs.declared.sides.Relation.{Relation};
+ghost use Rattle.reason_report.specs.declared.relations.Relation.{Relation};
 ghost use Rattle.reason_report.specs.Answers.{is_following};
 ghost use Rattle.reason_report.specs.Listings.{IsListed};
-ghost use Rattle.reason_report.specs.Reason.{cycle_of, reason_of};
-ghost use Rattle.reason_report.specs.Relations.{left_point, right_point, relations_of};
-ghost use Rattle.reason_report.specs.Subjects.{AreExtents};
+ghost use Rattle.reason_report.specs.Relations.{relations_of};
 
 /// A report says `inconsistent` exactly where no placing satisfies the orders.
 pub fn reports_are_consistent_where_some_placing_satisfies()

@@ -3,16 +3,13 @@
 #![tactic(auto)]
 
 mod answers;
-mod basis;
 mod counting;
 mod delays;
 pub mod laws;
 mod relations;
 mod report;
-mod sides;
-#[cfg(test)]
-mod tests;
 
 pub use answers::{Answer, print_answer};
+pub use counting::count_relations;
+pub use relations::Relation;
 pub use report::{print_inconsistent, print_reason};
-pub use sides::{Relation, Side};

@@ -6,26 +6,37 @@ ghost use Rattle.order_laws.specs.Closure.{reach_between};
 ghost use Rattle.order_laws.specs.Tables.{IsPoint, is_strict};
 ghost use Rattle.chain_certificate.specs.Routes.{IsRoutesOf};
 ghost use Rattle.crm_outside.specs.Printing.{Prints};
-ghost use Rattle.reason_report.specs.Relations.{left_point, right_point, reach_at, relation_at};
+ghost use Rattle.order_core.specs.Sides.{left_point, right_point};
+ghost use Rattle.order_analysis.specs.Reasons.{reach_at};
+ghost use Rattle.reason_report.specs.Relations.{relation_at};
 ghost use Rattle.reason_report.specs.Reason as spec;
 
-use crate::basis::Basis;
-use crate::sides::{Relation, Side};
 use chain_certificate::Routes;
 use crm_outside::{PrintFault, Sink, print_text};
 use itoa::Buffer;
+use order_analysis::Analysis;
 use order_closure::Reach;
-use order_core::{OrderSet, Point};
+use order_core::{OrderSet, Point, Primitive, Side};
 use order_texts::append_chain;
 use std::alloc::{AllocError, Global};
+
+/// A relation of two periods that follows from a set of orders: the boundary of the left one is at or
+/// before that of the right one, or before it where `strict` is set.
+#[derive(Clone, Copy, Debug, PartialEq, Eq)]
+pub struct Relation {
+    pub left: u32,
+    pub right: u32,
+    pub side: Side,
+    pub strict: bool,
+}
 
 fn append_codes(side: Side, strict: bool, line: &mut Vec<u8>) -> Result<(), AllocError>
     ensures { OnOk result (line.new.items ≡ line.old.items ++ spec.side_codes side strict) }
 {
-    line.extend_from_slice(side.weak_code().as_bytes())?;
+    line.extend_from_slice(Primitive::of(side, false).code().as_bytes())?;
     if strict {
         line.push(b' ')?;
-        line.extend_from_slice(side.strict_code().as_bytes())?;
+        line.extend_from_slice(Primitive::of(side, true).code().as_bytes())?;
     }
     Ok(())
 }
@@ -83,19 +94,19 @@ fn append_relation(
 }
 
 fn append_side(
-    basis: &Basis,
+    analysis: &Analysis,
     routes: &Routes,
     left: u32,
     right: u32,
     side: Side,
     line: &mut Vec<u8>,
 ) -> Result<(), AllocError>
-    requires routes { IsRoutesOf basis.now.set (left_point side left) routes.now }
-    requires right { right < basis.now.set.extents }
+    requires routes { IsRoutesOf analysis.now.set (left_point side left) routes.now }
+    requires right { right < analysis.now.set.extents }
     ensures { OnOk result (line.new.items ≡ line.old.items
-        ++ flat_map (spec.relation_line basis.now.set.list) (relation_at basis.now.set.list left right side)) }
+        ++ flat_map (spec.relation_line analysis.now.set.list) (relation_at analysis.now.set.list left right side)) }
 {
-    let strict = match basis.closure.between(side.left(left), side.right(right)) {
+    let strict = match analysis.between(side.left(left), side.right(right)) {
         Reach::None => return Ok(()),
         Reach::Le => false,
         Reach::Lt => true,
@@ -106,34 +117,34 @@ fn append_side(
         side,
         strict,
     };
-    append_relation(basis.alloc, basis.set, routes, relation, line)
+    append_relation(analysis.alloc(), analysis.set(), routes, relation, line)
 }
 
 // The lines of the relations of two periods, side by side.
 fn append_pair(
-    basis: &Basis,
+    analysis: &Analysis,
     from_start: &Routes,
     from_end: &Routes,
     a: u32,
     b: u32,
     line: &mut Vec<u8>,
 ) -> Result<(), AllocError>
-    requires start { IsRoutesOf basis.now.set (Start a) from_start.now }
-    requires end { IsRoutesOf basis.now.set (End a) from_end.now }
-    requires right { b < basis.now.set.extents }
-    ensures { OnOk result (line.new.items ≡ line.old.items ++ spec.pair_text basis.now.set.list a b) }
+    requires start { IsRoutesOf analysis.now.set (Start a) from_start.now }
+    requires end { IsRoutesOf analysis.now.set (End a) from_end.now }
+    requires right { b < analysis.now.set.extents }
+    ensures { OnOk result (line.new.items ≡ line.old.items ++ spec.pair_text analysis.now.set.list a b) }
 {
     if a == b {
         return Ok(());
     }
-    append_side(basis, from_start, a, b, Side::StartEnd, line)?;
-    append_side(basis, from_start, a, b, Side::StartStart, line)?;
-    append_side(basis, from_end, a, b, Side::EndStart, line)?;
-    append_side(basis, from_end, a, b, Side::EndEnd, line)
+    append_side(analysis, from_start, a, b, Side::StartEnd, line)?;
+    append_side(analysis, from_start, a, b, Side::StartStart, line)?;
+    append_side(analysis, from_end, a, b, Side::EndStart, line)?;
+    append_side(analysis, from_end, a, b, Side::EndEnd, line)
 }
 
 fn print_pair<W: Sink>(
-    basis: &Basis,
+    analysis: &Analysis,
     from_start: &Routes,
     from_end: &Routes,
     a: u32,
@@ -141,72 +152,71 @@ fn print_pair<W: Sink>(
     line: &mut Vec<u8>,
     out: &mut W,
 ) -> Result<(), PrintFault>
-    requires start { IsRoutesOf basis.now.set (Start a) from_start.now }
-    requires end { IsRoutesOf basis.now.set (End a) from_end.now }
-    requires right { b < basis.now.set.extents }
-    ensures { Prints W.written W.faults W.sure out.old out.new (spec.pair_text basis.now.set.list a b) result }
+    requires start { IsRoutesOf analysis.now.set (Start a) from_start.now }
+    requires end { IsRoutesOf analysis.now.set (End a) from_end.now }
+    requires right { b < analysis.now.set.extents }
+    ensures { Prints W.written W.faults W.sure out.old out.new (spec.pair_text analysis.now.set.list a b) result }
 {
     line.clear();
-    let Ok(()) = append_pair(basis, from_start, from_end, a, b, line) else {
+    let Ok(()) = append_pair(analysis, from_start, from_end, a, b, line) else {
         return Err(PrintFault::Memory);
     };
     print_text(out, line.as_slice())
 }
 
 fn print_row<W: Sink>(
-    basis: &Basis,
+    analysis: &Analysis,
     from_start: &Routes,
     from_end: &Routes,
     a: u32,
     line: &mut Vec<u8>,
     out: &mut W,
 ) -> Result<(), PrintFault>
-    requires start { IsRoutesOf basis.now.set (Start a) from_start.now }
-    requires end { IsRoutesOf basis.now.set (End a) from_end.now }
-    ensures { Prints W.written W.faults W.sure out.old out.new (spec.row_text basis.now.set.list basis.now.periods a) result }
+    requires start { IsRoutesOf analysis.now.set (Start a) from_start.now }
+    requires end { IsRoutesOf analysis.now.set (End a) from_end.now }
+    ensures { Prints W.written W.faults W.sure out.old out.new (spec.row_text analysis.now.set.list analysis.now.periods a) result }
 {
-    for i in 0..basis.len() {
-        let Some(b) = basis.period(i) else {
+    for i in 0..analysis.len() {
+        let Some(b) = analysis.period(i) else {
             unreachable!()
         };
-        print_pair(basis, from_start, from_end, a, b, line, out)?;
+        print_pair(analysis, from_start, from_end, a, b, line, out)?;
     }
     Ok(())
 }
 
 fn print_period<W: Sink>(
-    basis: &Basis,
+    analysis: &Analysis,
     a: u32,
     line: &mut Vec<u8>,
     out: &mut W,
 ) -> Result<(), PrintFault>
-    requires { a < basis.now.set.extents }
-    ensures { Prints W.written W.faults W.sure out.old out.new (spec.row_text basis.now.set.list basis.now.periods a) result }
+    requires { a < analysis.now.set.extents }
+    ensures { Prints W.written W.faults W.sure out.old out.new (spec.row_text analysis.now.set.list analysis.now.periods a) result }
 {
-    let (alloc, set, edges) = (basis.alloc, basis.set, basis.edges);
-    let Ok(from_start) = Routes::build_uncounted(alloc, set, edges, Point::Start(a)) else {
+    let Ok(from_start) = analysis.routes(Point::Start(a)) else {
         return Err(PrintFault::Memory);
     };
-    let Ok(from_end) = Routes::build_uncounted(alloc, set, edges, Point::End(a)) else {
+    let Ok(from_end) = analysis.routes(Point::End(a)) else {
         return Err(PrintFault::Memory);
     };
-    print_row(basis, &from_start, &from_end, a, line, out)
+    print_row(analysis, &from_start, &from_end, a, line, out)
 }
 
 /// Prints the lines of all relations that follow, by the numbers of the left and then of the right period.
 /// `line` is a buffer that is written over.
 pub fn print_relations<W: Sink>(
-    basis: &Basis,
+    analysis: &Analysis,
     line: &mut Vec<u8>,
     out: &mut W,
 ) -> Result<(), PrintFault>
-    ensures { Prints W.written W.faults W.sure out.old out.new (flat_map (spec.row_text basis.now.set.list basis.now.periods) basis.now.periods) result }
+    ensures { Prints W.written W.faults W.sure out.old out.new (flat_map (spec.row_text analysis.now.set.list analysis.now.periods) analysis.now.periods) result }
 {
-    for i in 0..basis.len() {
-        let Some(a) = basis.period(i) else {
+    for i in 0..analysis.len() {
+        let Some(a) = analysis.period(i) else {
             unreachable!()
         };
-        print_period(basis, a, line, out)?;
+        print_period(analysis, a, line, out)?;
     }
     Ok(())
 }

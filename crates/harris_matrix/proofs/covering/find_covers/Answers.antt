@@ -8,7 +8,7 @@ use Rattle.harris_matrix.proofs.covering.find_covers.Goals as goal
 pub loop-i-preserved : goal.loop-i-preserved
 loop-i-preserved c =
     let n : ℕ = c.args.rows.now.count in
-    let B : ℕ → ℕ → Bool = mark_at n c.args.rows.now.marks.items in
+    let B : ℕ → ℕ → Bool = mark_at n c.args.rows.now.words.items in
     let i : ℕ = c.loop-i.i in
     let size : length c.mark_covers.new.marks ≡ n = omega (arith, c.in_ok-marks_kept.ensures.len) in
     let row : pairs_with i (λ j. get_or c.mark_covers.new.marks j false) (length c.mark_covers.new.marks) ≡ pairs_with i (covers B n i) n =

@@ -5,5 +5,5 @@ use Rattle.harris_matrix.proofs.covering.find_covers.Given as goal
 
 abbrev pub invariant-loop-i : goal.invariant-loop-i
 invariant-loop-i l =
-    (l.pairs ≡ covers_of (mark_at l.rows.count l.rows.marks.items) l.rows.count l.i)
-    × (l.starts.items ≡ starts_of (mark_at l.rows.count l.rows.marks.items) l.rows.count l.i)
+    (l.pairs ≡ covers_of (mark_at l.rows.count l.rows.words.items) l.rows.count l.i)
+    × (l.starts.items ≡ starts_of (mark_at l.rows.count l.rows.words.items) l.rows.count l.i)

@@ -1,8 +1,9 @@
-use Rattle.std.proofs.Common.{◌≡◌, ◌<◌, ◌≤◌, ◌||◌, ℕ, get_or, false}
-use Rattle.harris_matrix.specs.Rows.{mark_at}
+use Rattle.std.proofs.Common.{◌≡◌, ◌<◌, ◌≤◌, ℕ, get_or, bit_or, length}
 use Rattle.harris_matrix.proofs.covering.strike.Given as goal
 
-abbrev pub invariant-loop-j : goal.invariant-loop-j
-invariant-loop-j l =
-    ((k : ℕ) → k < l.j → get_or l.struck k false ≡ (get_or l.initial.struck k false || mark_at l.rows.count l.rows.marks.items l.i k))
-    × ((k : ℕ) → l.j ≤ k → get_or l.struck k false ≡ get_or l.initial.struck k false)
+abbrev pub invariant-loop-k : goal.invariant-loop-k
+invariant-loop-k l = record {
+  size : length l.struck ≡ length l.initial.struck;
+  joined : (m : ℕ) → m < l.k → get_or l.struck m 0 ≡ bit_or (get_or l.initial.struck m 0) (get_or l.row m 0);
+  rest : (m : ℕ) → l.k ≤ m → get_or l.struck m 0 ≡ get_or l.initial.struck m 0;
+}

@@ -5,4 +5,4 @@ use Rattle.harris_matrix.proofs.levels.rank.Given as goal
 
 abbrev pub invariant-loop-k : goal.invariant-loop-k
 invariant-loop-k l =
-    (l.count ≡ count_below l.k (λ k. mark_at l.rows.count l.rows.marks.items k l.j)) × (l.count ≤ l.k)
+    (l.count ≡ count_below l.k (λ k. mark_at l.rows.count l.rows.words.items k l.j)) × (l.count ≤ l.k)

@@ -10,11 +10,11 @@ pub returns-in_ok-append_pair-in-Some-clause-text : goal.returns-in_ok-append_pa
 returns-in_ok-append_pair-in-Some-clause-text c =
     let r = c.append_pair.new.row in
     let now = c.in_ok-append_pair-in-Some.ensures in
-    pairs_more c.args.basis.now.set c.args.basis.now.periods c.args.row
+    pairs_more c.args.analysis.now.set c.args.analysis.now.periods c.args.row
     (record { period = r.period; place = r.place; next = r.next + 1; from_start = r.from_start; from_end = r.from_end })
     c.in-Some.b c.args.lets.now c.append_pair.new.lets c.args.line.now.items c.append_pair.new.line.items
     c.in-Some.ensures.period now.period now.place (ap (λ (n : ℕ). n + 1) now.next) now.lets now.line
 
 pub returns-in-None-clause-text : goal.returns-in-None-clause-text
 returns-in-None-clause-text c =
-    pairs_over c.args.basis.now.set c.args.basis.now.periods c.args.row c.args.lets.now c.args.line.now.items c.in-None.ensures.period
+    pairs_over c.args.analysis.now.set c.args.analysis.now.periods c.args.row c.args.lets.now c.args.line.now.items c.in-None.ensures.period

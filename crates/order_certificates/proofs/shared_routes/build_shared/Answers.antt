@@ -1,11 +1,8 @@
-use Rattle.std.proofs.Common.{subst}
-use Rattle.chain_certificate.specs.Routes.{IsRoutesOf}
-use Rattle.reason_report.specs.Subjects.{Subject}
 use Rattle.order_certificates.proofs.Tables.{fresh_kept}
 use Rattle.order_certificates.proofs.shared_routes.build_shared.Goals as goal
 
 pub returns : goal.returns
 returns c = λ lets. record {
-  routes = subst (λ (s : Subject). IsRoutesOf s.set c.args.source c.in_ok-routes.routes) c.basis.view_is c.in_ok-routes.ensures;
+  routes = c.in_ok-routes.ensures;
   parts = fresh_kept c.in_ok-routes.routes.nodes lets c.in_ok-parts.parts.items c.node_count.result c.in_ok-parts.ensures c.node_count.ensures;
 }

@@ -1,9 +1,8 @@
-use Rattle.std.proofs.Common.{rules, ◌∙◌, ◌++◌, length, ap}
+use Rattle.std.proofs.Common.{rules, ◌∙◌, length, ap}
 use Rattle.std.proofs.lemmas.Int.{to_z-of_z}
 use mir.Syntax.{w128}
 use Rattle.order_laws.specs.Tables.{floor_instant}
 use Rattle.order_closure.specs.Closures.{between}
-use Rattle.placing_witness.specs.Bits.{words_of}
 use Rattle.placing_witness.proofs.Sharing.{apart_is, level_is}
 use Rattle.placing_witness.proofs.delays.delays.Goals as goal
 
@@ -16,6 +15,4 @@ returns-clause-delay c =
           ∙ apart_is (between c.args.closure.now) (length c.args.dates.now) c.args.points.now c.args.x c.args.row.now c.args.floors.now c.delay-floor.result c.requires.row c.requires.floors c.delay-floor.ensures.value;
       above = c.count_level.ensures.value
           ∙ level_is (between c.args.closure.now) (length c.args.dates.now) c.args.points.now c.args.x c.args.row.now c.requires.row;
-      after = c.in_ok-pack.ensures ∙ ap (λ ws. ws ++ words_of c.args.row.now c.args.words) c.in_ok-after.ensures.items
-          ∙ ap (λ r. words_of r c.args.words) c.requires.row;
     }

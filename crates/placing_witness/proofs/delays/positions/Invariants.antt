@@ -3,4 +3,4 @@ use Rattle.placing_witness.specs.Prepared.{delayed_positions}
 use Rattle.placing_witness.proofs.delays.positions.Given as goal
 
 abbrev pub invariant-loop-n : goal.invariant-loop-n
-invariant-loop-n l = l.positions.items ≡ delayed_positions l.delay l.row l.floors l.words l.lower l.plain l.n
+invariant-loop-n l = l.positions.items ≡ delayed_positions l.delay l.row l.floors l.counts l.plain l.n

@@ -1,8 +1,10 @@
-use Rattle.std.proofs.Common.{◌≡◌, ◌≤◌}
-use Rattle.std.specs.Prelude.{◌&&◌, ◌==◌, slice_index_or}
-use Rattle.order_laws.specs.Tables.{is_strict}
-use Rattle.placing_witness.specs.Bits.{count_to, entry_at}
+use Rattle.std.proofs.Common.{◌≡◌, ◌≤◌, ◌<◌, ℕ, length, get_or}
+use Rattle.order_closure.specs.Closures.{between}
+use Rattle.placing_witness.specs.Prepared.{below_to}
 use Rattle.placing_witness.proofs.ranks.count_below.Given as goal
 
-abbrev pub invariant-loop-n : goal.invariant-loop-n
-invariant-loop-n l = (l.count ≤ l.n) × (l.count ≡ count_to (λ n. is_strict (entry_at l.column n) && (slice_index_or l.floors n 0 == l.floor)) l.n)
+abbrev pub invariant-loop-q : goal.invariant-loop-q
+invariant-loop-q l =
+    (length l.counts ≡ l.boundaries)
+    × ((n : ℕ) → n < l.boundaries → get_or l.counts n 0 ≡ below_to (between l.closure) l.points l.floors n l.q)
+    × ((n : ℕ) → n < l.boundaries → get_or l.counts n 0 ≤ l.q)

@@ -9,7 +9,7 @@ loop-i-preserved c = record {
     arith,
     c.loop-i.invariant.counted,
     c.count_row-count.ensures.count,
-    counts_one (relations_from c.args.basis.now.set.list c.args.basis.now.periods) c.args.basis.now.periods c.loop-i.i c.in-Some.a c.in-Some.ensures.period,
+    counts_one (relations_from c.args.analysis.now.set.list c.args.analysis.now.periods) c.args.analysis.now.periods c.loop-i.i c.in-Some.a c.in-Some.ensures.period,
   );
   few = omega (arith, c.loop-i.invariant.few, c.count_row-count.ensures.few);
 }

@@ -5,6 +5,6 @@ use Rattle.reason_report.proofs.counting.count_relations.Given as goal
 
 abbrev pub invariant-loop-i : goal.invariant-loop-i
 invariant-loop-i l = record {
-  counted : l.count ≡ count_primitives (flat_map (relations_from l.basis.set.list l.basis.periods) (take l.i l.basis.periods));
+  counted : l.count ≡ count_primitives (flat_map (relations_from l.analysis.set.list l.analysis.periods) (take l.i l.analysis.periods));
   few : l.count ≤ 2 ^ 23 * l.i;
 }

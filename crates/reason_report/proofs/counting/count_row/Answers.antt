@@ -9,7 +9,7 @@ loop-i-preserved c = record {
     arith,
     c.loop-i.invariant.counted,
     c.count_pair-count.ensures.count,
-    counts_one (relations_between c.args.basis.now.set.list c.args.a) c.args.basis.now.periods c.loop-i.i c.in-Some.b c.in-Some.ensures.period,
+    counts_one (relations_between c.args.analysis.now.set.list c.args.a) c.args.analysis.now.periods c.loop-i.i c.in-Some.b c.in-Some.ensures.period,
   );
   few = omega (arith, c.loop-i.invariant.few, c.count_pair-count.ensures.few);
 }

@@ -5,6 +5,6 @@ use Rattle.reason_report.proofs.counting.count_row.Given as goal
 
 abbrev pub invariant-loop-i : goal.invariant-loop-i
 invariant-loop-i l = record {
-  counted : l.count ≡ count_primitives (flat_map (relations_between l.basis.set.list l.a) (take l.i l.basis.periods));
+  counted : l.count ≡ count_primitives (flat_map (relations_between l.analysis.set.list l.a) (take l.i l.analysis.periods));
   few : l.count ≤ 8 * l.i;
 }

@@ -1,14 +1,16 @@
-use Rattle.std.proofs.Common.{arith, ◌≡◌, ◌≤◌, ◌∙◌, ℕ, Bool, List, length, subst, sym, ap}
+use Rattle.std.proofs.Common.{arith, ◌≡◌, ◌<◌, ◌≤◌, ◌∙◌, ℕ, Bool, List, length, subst, sym, ap}
+use Rattle.std.proofs.lemmas.List.Elements.{All-filter}
 use Rattle.order_laws.specs.declared.Order.{Order}
 use Rattle.order_laws.specs.declared.Point.{Point}
 use Rattle.order_laws.specs.declared.Reach.{Reach}
 use Rattle.order_laws.specs.Closure.{reach_between}
-use Rattle.harris_matrix.specs.Cells.{AreExtents, representatives, is_least, comes_before}
+use Rattle.order_core.specs.Sets.{AreExtents}
+use Rattle.harris_matrix.specs.Cells.{representatives, is_least, comes_before}
 use Rattle.harris_matrix.specs.Covers.{all_covers}
 use Rattle.harris_matrix.specs.Levels.{AreLevels}
 use Rattle.harris_matrix.specs.Matrices.{cells_below}
 use Rattle.harris_matrix.specs.Rows.{mark_at}
-use Rattle.harris_matrix.proofs.Building.{matrix_of, kept_extents, kept_few, laid, length-cells}
+use Rattle.harris_matrix.proofs.Building.{matrix_of, kept_few, laid, length-cells}
 use Rattle.harris_matrix.proofs.matrix.Matrix.build.Goals as goal
 
 pub order_rows-requires-clause-least : goal.order_rows-requires-clause-least
@@ -16,7 +18,7 @@ order_rows-requires-clause-least c =
     let table : Point → Point → Reach = reach_between c.args.set.now.list in
     let P : List ℕ → Type 0 = AreExtents c.args.set.now.extents in
     subst P (sym (c.deref.ensures.value ∙ c.in_ok-least.ensures ∙ ap (representatives table) c.as_slice-periods.ensures))
-    (kept_extents c.args.set.now.extents (is_least table c.args.periods.now) c.args.periods.now c.requires.periods)
+    (All-filter (is_least table c.args.periods.now) (λ k. k < c.args.set.now.extents) c.args.periods.now c.requires.periods)
 
 pub order_rows-requires-clause-few : goal.order_rows-requires-clause-few
 order_rows-requires-clause-few c =
@@ -30,7 +32,7 @@ make_cells-requires-clause-least c =
     let table : Point → Point → Reach = reach_between c.args.set.now.list in
     let P : List ℕ → Type 0 = AreExtents c.args.set.now.extents in
     subst P (sym (c.deref-4.ensures.value ∙ c.in_ok-least.ensures ∙ ap (representatives table) c.as_slice-periods.ensures))
-    (kept_extents c.args.set.now.extents (is_least table c.args.periods.now) c.args.periods.now c.requires.periods)
+    (All-filter (is_least table c.args.periods.now) (λ k. k < c.args.set.now.extents) c.args.periods.now c.requires.periods)
 
 pub returns : goal.returns
 returns c =
@@ -39,7 +41,7 @@ returns c =
     let periods : List ℕ = c.args.periods.now in
     let least : List ℕ = c.in_ok-least.least.items in
     let levels : List ℕ = c.in_ok-levels.levels.items in
-    let marks : ℕ → ℕ → Bool = mark_at c.in_ok-rows.rows.count c.in_ok-rows.rows.marks.items in
+    let marks : ℕ → ℕ → Bool = mark_at c.in_ok-rows.rows.count c.in_ok-rows.rows.words.items in
     let count : c.in_ok-rows.rows.count ≡ length least = c.in_ok-rows.ensures.count ∙ ap length c.deref.ensures.value in
     let P : ℕ → Type 0 = λ n. AreLevels marks n levels in
     matrix_of orders periods least levels c.in_ok-cells.cells c.in_ok-covered.covered.pairs marks
@@ -55,7 +57,7 @@ returns c =
 pub invariant_of-result : goal.invariant_of-result
 invariant_of-result c =
     let table : Point → Point → Reach = reach_between c.args.set.now.list in
-    let marks : ℕ → ℕ → Bool = mark_at c.in_ok-rows.rows.count c.in_ok-rows.rows.marks.items in
+    let marks : ℕ → ℕ → Bool = mark_at c.in_ok-rows.rows.count c.in_ok-rows.rows.words.items in
     let size : length c.in_ok-cells.cells ≡ c.in_ok-rows.rows.count =
     length-cells table c.as_slice-periods.result.now c.deref-4.result.now c.deref-5.result.now c.in_ok-cells.cells c.in_ok-cells.ensures
     ∙ ap length c.deref-4.ensures.value ∙ sym (c.in_ok-rows.ensures.count ∙ ap length c.deref.ensures.value) in

@@ -7,7 +7,7 @@ use Rattle.placing_witness.proofs.placings.Placings.plain.Goals as goal
 pub returns : goal.returns
 returns c =
     let P : Orders → Type 0 = λ s. c.from_vec.result ≡ plain_placing s.list s.extents s.dates in
-    let p = c.self.invariant in
+    let b = c.self.invariant.base in
     subst P c.self.view_is
     (c.from_vec.ensures ∙ c.in_ok-from_slice.ensures.items ∙ c.deref.ensures.value
-    ∙ plain_is c.self.inside.set.now c.self.inside.closure.now p.closed p.consistent c.self.inside.points.items c.self.inside.positions.items p.listed p.placed)
+    ∙ plain_is c.self.inside.set.now c.self.inside.closure.now b.closed b.consistent c.self.inside.base.points.items c.self.inside.base.positions.items b.listed b.placed)

@@ -1,7 +1,0 @@
-use Rattle.std.proofs.Common.{◌≡◌, ◌≤◌}
-use Rattle.order_laws.specs.Tables.{floor_of}
-use Rattle.order_closure.specs.Closures.{between}
-use Rattle.placing_witness.proofs.floors.floor.Given as goal
-
-abbrev pub invariant-loop-k : goal.invariant-loop-k
-invariant-loop-k l = (l.floor ≤ l.k) × (l.floor ≡ floor_of (between l.closure) l.k l.point)

@@ -1,0 +1,10 @@
+use Rattle.std.proofs.Common.{◌≡◌, ◌≤◌, ◌<◌, ℕ, length, get_or}
+use Rattle.order_closure.specs.Closures.{between}
+use Rattle.placing_witness.specs.Prepared.{between_to}
+use Rattle.placing_witness.proofs.ranks.count_between.Given as goal
+
+abbrev pub invariant-loop-q : goal.invariant-loop-q
+invariant-loop-q l =
+    (length l.counts ≡ l.boundaries)
+    × ((n : ℕ) → n < l.boundaries → get_or l.counts n 0 ≡ between_to (between l.closure) l.points l.row n l.q)
+    × ((n : ℕ) → n < l.boundaries → get_or l.counts n 0 ≤ l.q)

@@ -1,0 +1,10 @@
+use Rattle.std.proofs.Common.{◌≡◌, ◌≤◌, ◌<◌, ◌+◌, ℕ, cond, length, get_or}
+use Rattle.std.specs.Prelude.{◌&&◌, ◌==◌}
+use Rattle.order_closure.specs.Rows.{bit_of}
+use Rattle.placing_witness.proofs.tallies.tally_level.Given as goal
+
+abbrev pub invariant-loop-n : goal.invariant-loop-n
+invariant-loop-n l =
+    (length l.counts ≡ length l.initial.counts)
+    × ((k : ℕ) → k < l.n → get_or l.counts k 0 ≡ get_or l.initial.counts k 0 + cond (bit_of l.row 0 k && (l.floor == get_or l.floors k 0)) 1 0)
+    × ((k : ℕ) → l.n ≤ k → get_or l.counts k 0 ≡ get_or l.initial.counts k 0)
