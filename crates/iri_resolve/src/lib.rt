@@ -4,8 +4,6 @@
 mod dots;
 mod resolution;
 mod splitting;
-#[cfg(test)]
-mod tests;
 
 pub use resolution::{ResolveFault, resolve};
 pub use splitting::{Parts, Span, has_scheme, split};

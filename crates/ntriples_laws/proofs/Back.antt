@@ -13,10 +13,10 @@ use Rattle.rdf_terms.specs.declared.triples.Records.{Records}
 use Rattle.rdf_terms.specs.Naming.{NameLists}
 use Rattle.rdf_terms.specs.Fitting.{is_iri, is_literal}
 use Rattle.ntriples_tokens.specs.declared.kinds.Kind.TheVariants as kind
-use Rattle.ntriples_tokens.specs.declared.cutter.Place.TheVariants.{Between}
+use Rattle.token_scanner.specs.declared.place.Place.TheVariants.{Between}
 use Rattle.ntriples_tokens.specs.declared.states.State.TheVariants as state
-use Rattle.ntriples_tokens.specs.Items.{items}
-use Rattle.ntriples_tokens.specs.Widths.{width}
+use Rattle.ntriples_tokens.specs.Scanning.{items}
+use Rattle.token_scanner.specs.Widths.{width}
 use Rattle.ntriples_reader.specs.declared.line.Expect.{Expect}
 use Rattle.ntriples_reader.specs.declared.line.Expect.TheVariants as expect
 use Rattle.ntriples_reader.specs.declared.store.Store.{Store}
@@ -24,8 +24,9 @@ use Rattle.ntriples_reader.specs.declared.store.Held.{Held}
 use Rattle.ntriples_reader.specs.Lines.{LineState, no_line, moved, code_by}
 use Rattle.ntriples_reader.specs.Lines as lines
 use Rattle.ntriples_reader.specs.Storing.{nothing, held_after}
-use Rattle.ntriples_reader.specs.Answers.{records_of, unless, by_code, judge, text_answer}
-use Rattle.ntriples_reader.specs.Answers.Answer.{Read}
+use Rattle.ntriples_reader.specs.Answers.{records_of, judge, text_answer}
+use Rattle.rdf_reading.specs.Answers.{unless, by_code}
+use Rattle.rdf_reading.specs.Answers.Answer.{Read}
 use Rattle.ntriples_reader.specs.Feeding.{answer, by_decoded}
 use Rattle.ntriples_writer.specs.Lines.{term_text, canonical_line}
 use Rattle.ntriples_laws.specs.Canonical.{canonical_text, IsSame}

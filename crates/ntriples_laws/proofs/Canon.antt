@@ -18,8 +18,8 @@ use Rattle.rdf_chars.proofs.Whole.{decoded_right}
 use Rattle.ntriples_tokens.specs.declared.states.State.{State}
 use Rattle.ntriples_tokens.specs.declared.states.State.TheVariants as state
 use Rattle.ntriples_tokens.specs.Steps.{next, class_at, labels, inside}
-use Rattle.ntriples_reader.specs.Values.{iri_chars}
-use Rattle.ntriples_reader.specs.Values as values
+use Rattle.rdf_reading.specs.Values.{iri_chars}
+use Rattle.rdf_reading.specs.Values as values
 use Rattle.ntriples_writer.specs.Lines.{escape_letter, escape_by, escaped}
 use Rattle.ntriples_laws.proofs.Reading.{states, states_append}
 use Rattle.ntriples_laws.proofs.Meaning.{meaning}
@@ -176,7 +176,7 @@ pub iri_not_bad : (cs : List ℕ) → IriChars cs → meaning.bad cs ≡ false
 iri_not_bad [] h = meaning.none_bad
 iri_not_bad (c ∷ cs) h = meaning.char_bad c cs (not_slash c h.0) ∙ iri_not_bad cs h.1
 
-pub inside_is : (a b : ℕ) (cs : List ℕ) → values.inside (a ∷ (cs ++ b ∷ [])) ≡ cs
+pub inside_is : (a b : ℕ) (cs : List ℕ) → values.inside 1 (a ∷ (cs ++ b ∷ [])) ≡ cs
 inside_is a b cs =
     let few : length (a ∷ (cs ++ b ∷ [])) - 1 ≡ length (a ∷ cs) = omega (arith, length_push cs b) in
     ap (λ n. drop 1 (take n (a ∷ (cs ++ b ∷ [])))) few ∙ ap (drop 1) (take-append-le (length (a ∷ cs)) (a ∷ cs) (b ∷ []) (omega arith) ∙ take-length (a ∷ cs))

@@ -17,24 +17,28 @@ use Rattle.rdf_terms.specs.declared.triples.Records.{Records}
 use Rattle.rdf_terms.specs.Naming.{same_literal}
 use Rattle.ntriples_tokens.specs.declared.kinds.Kind.{Kind}
 use Rattle.ntriples_tokens.specs.declared.kinds.Kind.TheVariants as kind
-use Rattle.ntriples_tokens.specs.declared.cutter.Place.{Place}
-use Rattle.ntriples_tokens.specs.declared.cutter.Place.TheVariants.{Beginning, Between}
+use Rattle.token_scanner.specs.declared.place.Place.{Place}
+use Rattle.token_scanner.specs.declared.place.Place.TheVariants.{Beginning, Between}
 use Rattle.ntriples_tokens.specs.Machine.{ntriples}
-use Rattle.ntriples_tokens.specs.Items.{Items, items}
-use Rattle.ntriples_tokens.specs.Items.Items.{Stop, Bad, TooLong, Item}
-use Rattle.ntriples_tokens.specs.Texts.{IsTooLong, AreItems, AreChars}
-use Rattle.ntriples_tokens.specs.Widths.{width}
-use Rattle.ntriples_tokens.proofs.Saying.{texts_say}
+use Rattle.ntriples_tokens.specs.Scanning.{scanner, Items, items}
+use Rattle.token_scanner.specs.Items.Items.{Stop, Bad, TooLong, Item}
+use Rattle.token_scanner.specs.Texts.{IsTooLong, AreChars}
+use Rattle.ntriples_tokens.specs.Scanning.{AreItems}
+use Rattle.token_scanner.specs.Widths.{width}
+use Rattle.token_scanner.proofs.Saying.{texts_say}
+use Rattle.ntriples_tokens.specs.ScannerLaws.{right}
 use Rattle.ntriples_reader.specs.declared.line.Expect.{Expect}
 use Rattle.ntriples_reader.specs.declared.line.Expect.TheVariants as expect
 use Rattle.ntriples_reader.specs.declared.line.Sort.{Sort}
 use Rattle.ntriples_reader.specs.declared.line.Sort.TheVariants as sort
 use Rattle.ntriples_reader.specs.declared.store.Store.{Store}
 use Rattle.ntriples_reader.specs.declared.store.Held.{Held}
-use Rattle.ntriples_reader.specs.Lines.{LineState, no_line, xsd_string, code_at, line_after}
+use Rattle.rdf_vocabulary.specs.Iris.{xsd_string}
+use Rattle.ntriples_reader.specs.Lines.{LineState, no_line, code_at, line_after}
 use Rattle.ntriples_reader.specs.Storing.{literal_of, node_term, node_store, with_line, nothing, limited, held_by, held_after}
-use Rattle.ntriples_reader.specs.Answers.{Answer, records_of, unless, by_code, held_behind, judge, text_answer}
-use Rattle.ntriples_reader.specs.Answers.Answer.{Refuse, Read}
+use Rattle.rdf_reading.specs.Answers.{Answer, unless, by_code}
+use Rattle.ntriples_reader.specs.Answers.{records_of, held_behind, judge, text_answer}
+use Rattle.rdf_reading.specs.Answers.Answer.{Refuse, Read}
 use Rattle.ntriples_reader.specs.Feeding.{answer, by_decoded}
 use Rattle.ntriples_laws.proofs.Treed.{refused_not}
 use Rattle.ntriples_laws.proofs.Stepping.{iri_there, literal_there, first_store, second_store, taken}
@@ -49,7 +53,7 @@ abbrev pub AreTokens : Items → Type 0
 AreTokens (Item k chars at rest) = IsToken k chars × AreTokens rest
 AreTokens _ = Unit {0}
 
-not_wide : (chars rest : List ℕ) (k : Kind) → Spells ntriples k chars → (IsTooLong (chars ++ rest) → ⊥) → width chars ≤ 65536
+not_wide : (chars rest : List ℕ) (k : Kind) → Spells ntriples k chars → (IsTooLong scanner (chars ++ rest) → ⊥) → width chars ≤ 65536
 not_wide chars rest k s never = elim (cases_lt 65536 (width chars)) [
   | inl w ↦ absurd (never (record {
     count = length chars;
@@ -238,6 +242,6 @@ answered bytes r e = by (decoded start bytes) refl e
     by : (d : Decoded) → decoded start bytes ≡ d → by_decoded d text_answer ≡ Read r → Answered r
     by (Chars cs) f e =
         let good : scalars cs ≡ true = (whole cs (decoded_right bytes (chars_are_bytes bytes cs f)) f).0 in
-        judge_ok (items Beginning 0 cs 0) no_line nothing r (are_tokens (items Beginning 0 cs 0) Beginning cs 0 good (texts_say Beginning cs 0 (scalars_chars cs good))) tt
+        judge_ok (items Beginning 0 cs 0) no_line nothing r (are_tokens (items Beginning 0 cs 0) Beginning cs 0 good (texts_say scanner right Beginning cs 0 (scalars_chars cs good))) tt
         (kept_nothing, record { iris = λ n text h. absurd (cc h); literals = λ n v h. absurd (cc h) }) e
     by (BadAt place) f e = absurd (refused_not _ place r e)

@@ -18,7 +18,8 @@ use Rattle.ntriples_reader.specs.declared.line.Sort.TheVariants as sort
 use Rattle.ntriples_reader.specs.declared.store.Store.{Store}
 use Rattle.ntriples_reader.specs.declared.store.Held.{Held}
 use Rattle.ntriples_reader.specs.Lines.{LineState}
-use Rattle.ntriples_reader.specs.Storing.{label_number, node_term, has_room, with_line, empty_store, nothing, limited, held_after}
+use Rattle.ntriples_reader.specs.Storing.{label_number, node_term, with_line, empty_store, nothing, limited, held_after}
+use Rattle.rdf_reading.specs.Room.{has_room}
 use Rattle.ntriples_laws.specs.Canonical.{terms_of}
 use Rattle.ntriples_laws.proofs.Stepping.{GrowsTo, grows_on, InStore, Larger, larger_on, in_larger, stepped, ShowsNode, Again, again_node, first_store, second_store, third_store, Taken, taken, takes, iri_there, some_same}
 

@@ -17,12 +17,13 @@ use Rattle.ntriples_tokens.specs.declared.kinds.Kind.{Kind}
 use Rattle.ntriples_tokens.specs.declared.kinds.Kind.TheVariants as kind
 use Rattle.ntriples_tokens.specs.Machine.{ntriples}
 use Rattle.ntriples_tokens.specs.Terminals.{iri_char, text_char, echar, uchar, scalar4, scalar8, letter, letter_or_digit, spelling}
-use Rattle.ntriples_tokens.specs.Texts.{AreChars}
-use Rattle.ntriples_tokens.specs.Widths.{width}
-use Rattle.ntriples_tokens.proofs.Widths.{width-append, length_width}
+use Rattle.token_scanner.specs.Texts.{AreChars}
+use Rattle.token_scanner.specs.Widths.{width}
+use Rattle.token_scanner.proofs.Widths.{width-append, length_width}
 use Rattle.ntriples_reader.specs.Lines.{iri_code}
-use Rattle.ntriples_reader.specs.Values.{letter_value, char_of, iri_chars, is_excluded, value_text, tag_text}
-use Rattle.ntriples_reader.specs.Values as values
+use Rattle.rdf_reading.specs.Values.{letter_value, char_of, iri_chars, is_excluded}
+use Rattle.ntriples_reader.specs.Values.{value_text, tag_text}
+use Rattle.rdf_reading.specs.Values as values
 use Rattle.ntriples_writer.specs.Lines.{escape_letter, escape_by, escaped}
 use Rattle.ntriples_laws.proofs.Reading.{spelled_ran}
 use Rattle.ntriples_laws.proofs.Meaning.{meaning, four_digits}
@@ -302,8 +303,8 @@ pub record IsToken (k : Kind) (chars : List ℕ) : Type 0 where
 pub iri_good : (chars : List ℕ) → IsToken kind.IriRef chars → iri_code chars ≡ None → GoodIri (value_text chars)
 iri_good chars t ok =
     let b = between 0x3C 0x3E (Many (Either iri_char (Then (char 0x5C) uchar))) chars t.spelled in
-    let inner : values.inside chars ≡ joined b.matches.0 = ap values.inside b.is ∙ inside_is 0x3C 0x3E b.inner ∙ b.matches.1 in
-    let code = code_none (meaning.bad (values.inside chars)) (has_scheme (value_text chars)) (sym (meaning.code chars) ∙ ok) in
+    let inner : values.inside 1 chars ≡ joined b.matches.0 = ap (values.inside 1) b.is ∙ inside_is 0x3C 0x3E b.inner ∙ b.matches.1 in
+    let code = code_none (meaning.bad (values.inside 1 chars)) (has_scheme (value_text chars)) (sym (meaning.code chars) ∙ ok) in
     let good : scalars (joined b.matches.0) ≡ true = ap scalars (sym b.matches.1) ∙ inner_scalars 0x3C 0x3E b.inner (ap scalars (sym b.is) ∙ t.good) in
     let v = iri_valued b.matches.0 b.matches.2 good in
     let long : width chars ≡ width (joined b.matches.0) + 2 = ap width b.is ∙ inner_width 0x3C 0x3E b.inner (omega arith) (omega arith) ∙ ap (λ s. width s + 2) b.matches.1 in
@@ -321,7 +322,7 @@ iri_good chars t ok =
 pub text_good : (chars : List ℕ) → IsToken kind.Str chars → GoodText (value_text chars)
 text_good chars t =
     let b = between 0x22 0x22 (Many (Either text_char (Then (char 0x5C) (Either echar uchar)))) chars t.spelled in
-    let inner : values.inside chars ≡ joined b.matches.0 = ap values.inside b.is ∙ inside_is 0x22 0x22 b.inner ∙ b.matches.1 in
+    let inner : values.inside 1 chars ≡ joined b.matches.0 = ap (values.inside 1) b.is ∙ inside_is 0x22 0x22 b.inner ∙ b.matches.1 in
     let good : scalars (joined b.matches.0) ≡ true = ap scalars (sym b.matches.1) ∙ inner_scalars 0x22 0x22 b.inner (ap scalars (sym b.is) ∙ t.good) in
     let v = text_valued b.matches.0 b.matches.2 good in
     let long : width chars ≡ width (joined b.matches.0) + 2 = ap width b.is ∙ inner_width 0x22 0x22 b.inner (omega arith) (omega arith) ∙ ap (λ s. width s + 2) b.matches.1 in

@@ -14,7 +14,8 @@ use Rattle.ntriples_reader.specs.declared.line.Sort.{Sort}
 use Rattle.ntriples_reader.specs.declared.line.Sort.TheVariants as sort
 use Rattle.ntriples_reader.specs.declared.store.Store.{Store}
 use Rattle.ntriples_reader.specs.Lines.{LineState}
-use Rattle.ntriples_reader.specs.Storing.{label_number, with_label, is_full_iri, is_full_literal, iri_term, literal_term, iri_names, literal_names, literal_of, node_term, node_store, has_room, with_room, by_term, with_object, with_predicate, with_line}
+use Rattle.ntriples_reader.specs.Storing.{label_number, with_label, literal_of, node_term, node_store, with_room, by_term, with_object, with_predicate, with_line}
+use Rattle.rdf_reading.specs.Room.{is_full_iri, is_full_literal, iri_term, literal_term, iri_names, literal_names, has_room}
 use Rattle.ntriples_laws.specs.Canonical.{terms_of}
 use Rattle.ntriples_laws.proofs.Numbering.{Grows, joins_grows, joins_length, joins_within, joins_known, joins_get, position_le}
 use Rattle.ntriples_laws.proofs.Labels.{label, first_labels, label_is, labels_grow, bytes_same}

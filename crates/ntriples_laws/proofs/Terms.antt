@@ -14,23 +14,25 @@ use Rattle.rdf_terms.specs.declared.terms.Term.TheVariants as term
 use Rattle.rdf_terms.specs.Naming.{NameLists}
 use Rattle.ntriples_tokens.specs.declared.kinds.Kind.{Kind}
 use Rattle.ntriples_tokens.specs.declared.kinds.Kind.TheVariants as kind
-use Rattle.ntriples_tokens.specs.declared.cutter.Place.TheVariants.{Beginning, Between}
+use Rattle.token_scanner.specs.declared.place.Place.TheVariants.{Beginning, Between}
 use Rattle.ntriples_tokens.specs.declared.states.State.{State}
 use Rattle.ntriples_tokens.specs.declared.states.State.TheVariants as state
 use Rattle.ntriples_tokens.specs.Steps.{next, accepts, class_at}
-use Rattle.ntriples_tokens.specs.Items.{items}
-use Rattle.ntriples_tokens.specs.Items.Items.{Item}
-use Rattle.ntriples_tokens.specs.Widths.{width}
+use Rattle.ntriples_tokens.specs.Scanning.{items}
+use Rattle.token_scanner.specs.Items.Items.{Item}
+use Rattle.token_scanner.specs.Widths.{width}
 use Rattle.ntriples_reader.specs.declared.line.Expect.{Expect}
 use Rattle.ntriples_reader.specs.declared.line.Expect.TheVariants as expect
 use Rattle.ntriples_reader.specs.declared.line.Sort.{Sort}
 use Rattle.ntriples_reader.specs.declared.line.Sort.TheVariants as sort
 use Rattle.ntriples_reader.specs.declared.store.Held.{Held}
-use Rattle.ntriples_reader.specs.Lines.{LineState, xsd_string, rdf_lang_string, iri_code, line_after}
+use Rattle.rdf_vocabulary.specs.Iris.{xsd_string, rdf_lang_string}
+use Rattle.ntriples_reader.specs.Lines.{LineState, iri_code, line_after}
 use Rattle.ntriples_reader.specs.Lines as lines
 use Rattle.ntriples_reader.specs.Values.{value_text, label_text, tag_text}
-use Rattle.ntriples_reader.specs.Values as values
-use Rattle.ntriples_reader.specs.Answers.{judge, by_code}
+use Rattle.rdf_reading.specs.Values as values
+use Rattle.ntriples_reader.specs.Answers.{judge}
+use Rattle.rdf_reading.specs.Answers.{by_code}
 use Rattle.ntriples_writer.specs.Lines.{escaped, is_xsd_string, iri_text, datatype_text, ending_text, literal_or_none, term_text}
 use Rattle.ntriples_laws.proofs.Labels.{label, bytes_same}
 use Rattle.ntriples_laws.proofs.Stepping.{ShowsNode, some_same}
@@ -66,7 +68,7 @@ iri_is text g = meaning.text (iri_token g.chars) ∙ ap (λ s. encodes (meaning.
 
 iri_fine : (text : List ℕ) (g : GoodIri text) → iri_code (iri_token g.chars) ≡ None
 iri_fine text g = meaning.code (iri_token g.chars)
-    ∙ cond-false (meaning.bad (values.inside (iri_token g.chars))) (Some G6) (cond (has_scheme (value_text (iri_token g.chars))) None (Some G5)) (ap meaning.bad (inside_is 0x3C 0x3E g.chars) ∙ iri_not_bad g.chars g.allowed)
+    ∙ cond-false (meaning.bad (values.inside 1 (iri_token g.chars))) (Some G6) (cond (has_scheme (value_text (iri_token g.chars))) None (Some G5)) (ap meaning.bad (inside_is 0x3C 0x3E g.chars) ∙ iri_not_bad g.chars g.allowed)
     ∙ cond-true (has_scheme (value_text (iri_token g.chars))) None (Some G5) (ap has_scheme (iri_is text g) ∙ g.scheme)
 
 -- what follows a line's end, and the beginning of a text
@@ -232,11 +234,10 @@ record EndingRead (v : Literal) : Type 0 where
       ≡ judge (record l { expect = expected; datatype = v.datatype; tag = v.tag }) h (items Between 0 rest (after at))
 
 is_string : (datatype : List ℕ) → is_xsd_string datatype ≡ true → datatype ≡ xsd_string
-unfolding is_xsd_string xsd_string
 is_string datatype h = bytes_same datatype xsd_string h
 
 string_is : is_xsd_string xsd_string ≡ true
-unfolding is_xsd_string xsd_string
+unfolding xsd_string
 string_is = refl
 
 no_tag : (v : Literal) → v.tag ≡ [] → ending_text v ≡ datatype_text v.datatype

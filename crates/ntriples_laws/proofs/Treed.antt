@@ -7,15 +7,16 @@ use Rattle.rdf_chars.specs.Decoding.Decoded.{Chars, BadAt}
 use Rattle.rdf_terms.specs.declared.terms.Code.{Code}
 use Rattle.rdf_terms.specs.declared.triples.Records.{Records}
 use Rattle.ntriples_tokens.specs.declared.kinds.Kind.{Kind}
-use Rattle.ntriples_tokens.specs.declared.cutter.Place.TheVariants.{Beginning}
-use Rattle.ntriples_tokens.specs.Items.{Items, items}
-use Rattle.ntriples_tokens.specs.Items.Items.{Stop, Bad, TooLong, Item}
+use Rattle.token_scanner.specs.declared.place.Place.TheVariants.{Beginning}
+use Rattle.ntriples_tokens.specs.Scanning.{Items, items}
+use Rattle.token_scanner.specs.Items.Items.{Stop, Bad, TooLong, Item}
 use Rattle.ntriples_reader.specs.declared.line.Expect.{Expect}
 use Rattle.ntriples_reader.specs.declared.store.Held.{Held}
 use Rattle.ntriples_reader.specs.Lines.{LineState, no_line, next, with_token, moved, token_code, code_by, code_at, line_after}
 use Rattle.ntriples_reader.specs.Storing.{nothing}
-use Rattle.ntriples_reader.specs.Answers.{Answer, by_code, held_behind, judge, text_answer}
-use Rattle.ntriples_reader.specs.Answers.Answer.{Refuse, Read}
+use Rattle.rdf_reading.specs.Answers.{Answer, by_code}
+use Rattle.ntriples_reader.specs.Answers.{held_behind, judge, text_answer}
+use Rattle.rdf_reading.specs.Answers.Answer.{Refuse, Read}
 use Rattle.ntriples_reader.specs.Feeding.{answer, by_decoded}
 use Rattle.ntriples_laws.specs.Grammar.{Document, document}
 use Rattle.ntriples_laws.specs.Runs.{run, may_end}

@@ -6,14 +6,16 @@ use Rattle.std.proofs.lemmas.Bool.{true≢false, false≢true}
 use Rattle.rdf_terms.specs.declared.terms.Code.TheVariants.{G1, G3, L2}
 use Rattle.rdf_terms.specs.declared.terms.Refusal.{Refusal}
 use Rattle.ntriples_tokens.specs.declared.kinds.Kind.{Kind}
-use Rattle.ntriples_tokens.specs.declared.front.Front.TheVariants.{Nothing, Long}
-use Rattle.ntriples_tokens.specs.Items.{Kept, items, items_of, behind, front_items}
+use Rattle.token_scanner.specs.declared.front.Front.TheVariants.{Nothing, Long}
+use Rattle.token_scanner.specs.Items.{Kept}
+use Rattle.ntriples_tokens.specs.Scanning.{items, items_of, behind, front_items}
 use Rattle.ntriples_reader.specs.declared.store.Held.{Held}
 use Rattle.ntriples_reader.specs.declared.store.Store.{Store}
 use Rattle.ntriples_reader.specs.declared.lines.LinesReader.{LinesReader}
 use Rattle.ntriples_reader.specs.Lines.{LineState, code_at, line_after, is_between}
-use Rattle.ntriples_reader.specs.Answers.{Answer, judge, by_code, held_behind, token_items, unless, records_of, answer_of, Judges}
-use Rattle.ntriples_reader.specs.Answers.Answer.{Refuse, Read}
+use Rattle.rdf_reading.specs.Answers.{Answer, by_code, unless}
+use Rattle.ntriples_reader.specs.Answers.{judge, held_behind, token_items, records_of, answer_of, Judges}
+use Rattle.rdf_reading.specs.Answers.Answer.{Refuse, Read}
 
 pub token_judged : (l : LineState) (h : Held) (k : Kind) (n : ℕ) (chars more : List ℕ) (at : ℕ) → 0 < n → n ≤ length chars
     → by_code (code_at l k (take n chars)) at (judge (line_after l k (take n chars) at) (held_behind k (line_after l k (take n chars) at) h) (behind n (chars ++ more) at))

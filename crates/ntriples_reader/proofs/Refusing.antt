@@ -5,7 +5,7 @@ use Rattle.rdf_chars.specs.declared.utf8.BadUtf8.{BadUtf8}
 use Rattle.rdf_chars.specs.Steps.{Fed, fed, said}
 use Rattle.rdf_chars.specs.Decoding.{decoded, by_said}
 use Rattle.rdf_chars.proofs.Whole.{stays_bad}
-use Rattle.ntriples_reader.specs.Answers.{Answer}
+use Rattle.rdf_reading.specs.Answers.{Answer}
 use Rattle.ntriples_reader.specs.Feeding.{by_decoded}
 
 pub bad_promised : (v : Fed) (b : ℕ) (e : BadUtf8) (more : List ℕ) (f : List ℕ → Answer) → said v b ≡ Err e → by_decoded (decoded (fed v b) more) f ≡ by_decoded (decoded v (b ∷ more)) f

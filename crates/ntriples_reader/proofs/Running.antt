@@ -7,7 +7,7 @@ use Rattle.rdf_chars.specs.Steps.{Fed, fed_all, is_idle}
 use Rattle.rdf_chars.specs.Decoding.{Decoded, decoded, before, before_all}
 use Rattle.rdf_chars.specs.Decoding.Decoded.{Chars, BadAt}
 use Rattle.rdf_chars.proofs.Passing.{decoded_run}
-use Rattle.ntriples_reader.specs.Answers.{Answer}
+use Rattle.rdf_reading.specs.Answers.{Answer}
 use Rattle.ntriples_reader.specs.Feeding.{by_decoded}
 
 by_each : (d : Decoded) (f g : List ℕ → Answer) → ((chars : List ℕ) → f chars ≡ g chars) → by_decoded d f ≡ by_decoded d g

@@ -1,37 +1,24 @@
 -- What a text says: its names and triples, or the first refusal.
-use Rattle.std.specs.Prelude.{ℕ, ◌≡◌, List, cond, Option, None, Some, ⊤}
+use Rattle.std.specs.Prelude.{ℕ, ◌≡◌, List, cond, Option, None, Some}
 use Rattle.ntriples_tokens.specs.declared.kinds.Kind.{Kind}
 use Rattle.ntriples_tokens.specs.declared.kinds.Kind.TheVariants as kind
-use Rattle.ntriples_tokens.specs.declared.cutter.Place.TheVariants.{Beginning}
-use Rattle.ntriples_tokens.specs.declared.front.Front.TheVariants.{Token}
-use Rattle.ntriples_tokens.specs.Items.{Items, items, items_of, front_items}
-use Rattle.ntriples_tokens.specs.Items.Items.{Stop, Bad, TooLong, Item}
-use Rattle.rdf_terms.specs.declared.terms.Code.{Code}
+use Rattle.token_scanner.specs.declared.place.Place.TheVariants.{Beginning}
+use Rattle.token_scanner.specs.declared.front.Front.TheVariants.{Token}
+use Rattle.ntriples_tokens.specs.Scanning.{Items, items, items_of, front_items}
+use Rattle.token_scanner.specs.Items.Items.{Stop, Bad, TooLong, Item}
 use Rattle.rdf_terms.specs.declared.terms.Code.TheVariants.{G1, G3, L2}
 use Rattle.rdf_terms.specs.declared.terms.Refusal.{Refusal}
 use Rattle.rdf_terms.specs.declared.triples.Records.{Records}
+use Rattle.rdf_reading.specs.Answers.{Answer, unless, by_code}
+use Rattle.rdf_reading.specs.Answers.Answer.{Refuse, Read}
 use Rattle.ntriples_reader.specs.Lines.{LineState, no_line, code_at, line_after, is_between}
 use Rattle.ntriples_reader.specs.Storing.{held_after, nothing}
 use Rattle.ntriples_reader.specs.declared.store.Held.{Held}
 use Rattle.ntriples_reader.specs.declared.store.Store.{Store}
 use Rattle.ntriples_reader.specs.declared.lines.LinesReader.{LinesReader}
-use Rattle.ntriples_reader.specs.declared.lines.ReadRefusal.{ReadRefusal}
-use Rattle.ntriples_reader.specs.declared.lines.ReadRefusal.TheVariants.{Refused, Memory}
-
-pub data Answer : Type 0 where
-  Refuse : Code → ℕ → Answer
-  Read : Records → Answer
 
 abbrev pub records_of : Store → Records
 records_of st = record { names = st.names; triples = st.triples }
-
-abbrev pub unless : Option Refusal → Answer → Answer
-unless None a = a
-unless (Some r) a = Refuse r.code r.at
-
-abbrev pub by_code : Option Code → ℕ → Answer → Answer
-by_code None at a = a
-by_code (Some c) at a = Refuse c at
 
 abbrev pub if_dot : Kind → Held → Held → Held
 if_dot kind.Dot h g = h
@@ -58,10 +45,6 @@ answer_of r more = unless r.refusal (judge r.line r.held (items_of r.cutter more
 
 abbrev pub token_items : Kind → ℕ → List ℕ → ℕ → Items
 token_items k n chars at = front_items (Token k n) chars at
-
-abbrev pub IsRefusal : ReadRefusal → Answer → Type 0
-IsRefusal (Refused r) a = a ≡ Refuse r.code r.at
-IsRefusal Memory a = ⊤
 
 abbrev pub Judges : Option Refusal → Store → Answer → Type 0
 Judges None st a = a ≡ Read (records_of st)

@@ -1,12 +1,13 @@
 -- Lines of N-Triples, a token at a time.
 use Rattle.std.specs.Prelude.{ℕ, List, [], Bool, true, false, cond, codes, Option, None, Some}
+use Rattle.rdf_vocabulary.specs.Iris.{xsd_string, rdf_lang_string}
 use Rattle.rdf_terms.specs.declared.terms.Code.{Code}
 use Rattle.rdf_terms.specs.declared.terms.Code.TheVariants.{G2, G5, G6}
 use Rattle.iri_resolve.specs.Splitting.{has_scheme}
 use Rattle.ntriples_tokens.specs.declared.kinds.Kind.{Kind}
 use Rattle.ntriples_tokens.specs.declared.kinds.Kind.TheVariants as kind
-use Rattle.ntriples_reader.specs.declared.values.Pending.TheVariants.{Plain}
-use Rattle.ntriples_reader.specs.Values.{value_text, label_text, tag_text, bad_from, inside}
+use Rattle.rdf_reading.specs.Values.{has_bad_escape, inside}
+use Rattle.ntriples_reader.specs.Values.{value_text, label_text, tag_text}
 use Rattle.ntriples_reader.specs.declared.line.Expect.{Expect}
 use Rattle.ntriples_reader.specs.declared.line.Expect.TheVariants.{Start, Subject, Predicate, Quoted, Typed, Object, End}
 use Rattle.ntriples_reader.specs.declared.line.Sort.{Sort}
@@ -52,12 +53,6 @@ pub record LineState : Type 0 where
   pub tag : List ℕ
   pub at : ℕ
 
-unfoldable pub xsd_string : List ℕ
-xsd_string = codes "http://www.w3.org/2001/XMLSchema#string"
-
-unfoldable pub rdf_lang_string : List ℕ
-rdf_lang_string = codes "http://www.w3.org/1999/02/22-rdf-syntax-ns#langString"
-
 abbrev pub no_line : LineState
 no_line = record { expect = Start; subject_sort = Iri; subject = []; predicate = []; object_sort = Iri; object = []; datatype = []; tag = []; at = 0 }
 
@@ -88,7 +83,7 @@ line_after l k chars at = moved (with_token k l chars at) (next l.expect k)
 
 -- an IRI is refused where an escape gives a character that it may not have, and where it has no scheme
 abbrev pub iri_code : List ℕ → Option Code
-iri_code chars = cond (bad_from Plain (inside chars)) (Some G6) (cond (has_scheme (value_text chars)) None (Some G5))
+iri_code chars = cond (has_bad_escape (inside 1 chars)) (Some G6) (cond (has_scheme (value_text chars)) None (Some G5))
 
 abbrev pub token_code : Kind → List ℕ → Option Code
 token_code kind.IriRef chars = iri_code chars

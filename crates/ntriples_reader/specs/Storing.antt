@@ -1,15 +1,15 @@
 -- Names, labels and triples of the lines so far, to the first that passes a limit.
-use Rattle.std.specs.Prelude.{ℕ, List, [], ◌∷◌, ◌++◌, Bool, true, false, cond, ◌&&◌, not, nat_le, length, Option, None, Some, is_some, if◌then◌else◌}
+use Rattle.std.specs.Prelude.{ℕ, List, [], ◌∷◌, ◌++◌, Bool, true, false, cond, Option, None, Some, is_some, if◌then◌else◌}
 use Rattle.std.specs.List.{list_any, position_or_len}
 use Rattle.std.specs.Str.{bytes_eq}
-use Rattle.rdf_terms.specs.Naming.{NameLists, has_iri, iri_number, with_iri, has_literal, literal_number, with_literal, name_count}
-use Rattle.rdf_terms.specs.Terms.{is_held, with_triple}
+use Rattle.rdf_terms.specs.Terms.{with_triple}
 use Rattle.rdf_terms.specs.declared.terms.Code.{Code}
 use Rattle.rdf_terms.specs.declared.terms.Code.TheVariants.{L4, L5}
 use Rattle.rdf_terms.specs.declared.terms.Literal.{Literal}
 use Rattle.rdf_terms.specs.declared.terms.Term.{Term}
 use Rattle.rdf_terms.specs.declared.terms.Term.TheVariants as term
 use Rattle.rdf_terms.specs.declared.terms.Triple.{Triple}
+use Rattle.rdf_reading.specs.Room.{iri_term, literal_term, iri_names, literal_names, has_room}
 use Rattle.ntriples_reader.specs.declared.line.Sort.{Sort}
 use Rattle.ntriples_reader.specs.declared.line.Sort.TheVariants as sort
 use Rattle.ntriples_reader.specs.declared.store.Store.{Store}
@@ -22,25 +22,6 @@ label_number labels text = position_or_len (bytes_eq text) labels
 
 abbrev pub with_label : List (List ℕ) → List ℕ → List (List ℕ)
 with_label labels text = if list_any (bytes_eq text) labels then labels else labels ++ text ∷ []
-
--- whether a name is new, and as many are held as may be
-abbrev pub is_full_iri : NameLists → List ℕ → Bool
-is_full_iri names text = not (has_iri names text) && nat_le 262144 (name_count names)
-
-abbrev pub is_full_literal : NameLists → Literal → Bool
-is_full_literal names value = not (has_literal names value) && nat_le 262144 (name_count names)
-
-abbrev pub iri_term : NameLists → List ℕ → Option Term
-iri_term names text = cond (is_full_iri names text) None (Some (term.Iri (iri_number names text)))
-
-abbrev pub literal_term : NameLists → Literal → Option Term
-literal_term names value = cond (is_full_literal names value) None (Some (term.Lit (literal_number names value)))
-
-abbrev pub iri_names : NameLists → List ℕ → NameLists
-iri_names names text = cond (is_full_iri names text) names (with_iri names text)
-
-abbrev pub literal_names : NameLists → Literal → NameLists
-literal_names names value = cond (is_full_literal names value) names (with_literal names value)
 
 abbrev pub literal_of : List ℕ → LineState → Literal
 literal_of text l = record { lexical = text; datatype = l.datatype; tag = l.tag }
@@ -55,9 +36,6 @@ abbrev pub node_store : Store → Sort → List ℕ → LineState → Store
 node_store st sort.Iri text l = record st { names = iri_names st.names text }
 node_store st sort.Blank text l = record st { labels = with_label st.labels text }
 node_store st sort.Literal text l = record st { names = literal_names st.names (literal_of text l) }
-
-abbrev pub has_room : List Triple → Triple → Bool
-has_room triples t = not (not (is_held triples t) && nat_le 262144 (length triples))
 
 abbrev pub with_room : Store → Triple → Option Code × Store
 with_room st t = cond (has_room st.triples t) (None, record st { triples = with_triple st.triples t }) (Some L4, st)

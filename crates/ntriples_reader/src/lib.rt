@@ -6,9 +6,6 @@ mod line;
 mod lines;
 mod reader;
 mod store;
-#[cfg(test)]
-mod tests;
-mod values;
 
-pub use lines::ReadRefusal;
+pub use rdf_reading::ReadRefusal;
 pub use reader::NtReader;

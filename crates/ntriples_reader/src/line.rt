@@ -1,15 +1,15 @@
 // One line, a token at a time.
-ghost use Rattle.std.specs.Prelude.{◌≡◌, ◌≤◌, ◌-◌, [], None, OnOk, IfOk, true, false, take, drop, length, map, string_bytes};
+ghost use Rattle.std.specs.Prelude.{◌≡◌, [], None, OnOk, IfOk, true, false, map, string_bytes};
 ghost use Rattle.std.specs.Char.{to_ascii_lowercase};
 ghost use lib.Utf8.{encodes};
 ghost use Rattle.ntriples_reader.specs.Lines as spec;
 ghost use Rattle.ntriples_reader.specs.Values as values;
-ghost use Rattle.ntriples_reader.specs.declared.values.Pending.TheVariants.{Plain};
 
-use crate::values::put_value;
 use iri_resolve::has_scheme;
 use ntriples_tokens::Kind;
+use rdf_reading::{behind, inside, put_chars, put_unescaped};
 use rdf_terms::Code;
+use rdf_vocabulary::{rdf_lang_string, xsd_string};
 use std::alloc::{AllocError, Global};
 use std::marker::Model;
 
@@ -65,36 +65,6 @@ impl Expect {
     }
 }
 
-// The characters between brackets or quotation marks.
-fn inside(chars: &[char]) -> &[char]
-    ensures { result.now ≡ values.inside chars.now }
-{
-    if chars.len() < 2 {
-        return &chars[..0];
-    }
-    &chars[1..chars.len() - 1]
-}
-
-// The characters from the n-th on.
-fn behind(chars: &[char], n: usize) -> &[char]
-    ensures { result.now ≡ drop n chars.now }
-{
-    if chars.len() < n {
-        return &chars[..0];
-    }
-    &chars[n..]
-}
-
-fn put_chars(chars: &[char], out: &mut String) -> Result<(), AllocError>
-    ensures { OnOk result (string_bytes out.new ≡ encodes chars.now) }
-{
-    out.clear();
-    for c in chars {
-        out.push(*c)?;
-    }
-    Ok(())
-}
-
 fn put_lowercase(chars: &[char], out: &mut String) -> Result<(), AllocError>
     ensures { OnOk result (string_bytes out.new ≡ encodes (map to_ascii_lowercase chars.now)) }
 {
@@ -110,7 +80,7 @@ fn put_iri(chars: &[char], out: &mut String) -> Result<Option<Code>, AllocError>
     ensures text { OnOk result (string_bytes out.new ≡ values.value_text chars.now) }
     ensures code { IfOk result (λ code. code ≡ spec.iri_code chars.now) }
 {
-    if put_value(inside(chars), out)? {
+    if put_unescaped(inside(chars, 1), out)? {
         return Ok(Some(Code::G6));
     }
     if has_scheme(out.as_str()) {
@@ -204,7 +174,6 @@ impl Line {
         }
     }
 
-    #[tactic(auto, unfolding(crate::specs::Lines::xsd_string))]
     fn keep_string(&mut self, chars: &[char], at: u64) -> Result<(), AllocError>
         ensures { OnOk result (self.new ≡ spec.with_token Kind.Str self.old chars.now at) }
     {
@@ -212,19 +181,16 @@ impl Line {
         self.at = at;
         self.tag.clear();
         self.datatype.clear();
-        self.datatype
-            .push_str("http://www.w3.org/2001/XMLSchema#string")?;
-        put_value(inside(chars), &mut self.object)?;
+        self.datatype.push_str(xsd_string())?;
+        put_unescaped(inside(chars, 1), &mut self.object)?;
         Ok(())
     }
 
-    #[tactic(auto, unfolding(crate::specs::Lines::rdf_lang_string))]
     fn keep_tag(&mut self, chars: &[char]) -> Result<(), AllocError>
         ensures { OnOk result (self.new ≡ spec.with_token Kind.AtWord self.old chars.now 0) }
     {
         self.datatype.clear();
-        self.datatype
-            .push_str("http://www.w3.org/1999/02/22-rdf-syntax-ns#langString")?;
+        self.datatype.push_str(rdf_lang_string())?;
         put_lowercase(behind(chars, 1), &mut self.tag)
     }
 

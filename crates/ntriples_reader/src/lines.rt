@@ -2,30 +2,24 @@
 ghost use Rattle.std.specs.Prelude.{◌≡◌, ℕ, ◌+◌, ◌<◌, ◌≤◌, ◌^◌, List, [], ◌∷◌, ◌++◌, OnOk, IfOk, IfErr, true, None, Some, length, take, ⊤};
 ghost use Rattle.std.specs.Char.{len_utf8};
 ghost use Rattle.std.specs.Str.{IsAscii};
-ghost use Rattle.ntriples_tokens.specs.Widths.{width};
-ghost use Rattle.ntriples_tokens.specs.Items.{items_of, front_items, items_behind};
+ghost use Rattle.token_scanner.specs.Widths.{width};
+ghost use Rattle.ntriples_tokens.specs.Scanning.{items_of, front_items};
+ghost use Rattle.rdf_reading.specs.Answers.{Answer, IsRefusal};
 ghost use Rattle.ntriples_reader.specs.Answers as spec;
 
 use crate::line::Line;
 use crate::store::Held;
-use ntriples_tokens::{Cutter, Front, Kind};
+use ntriples_tokens::{Kind, NTriples};
+use rdf_reading::ReadRefusal;
 use rdf_terms::{Code, Records, Refusal};
 use std::alloc::{AllocError, Global};
-
-/// Why a text was not read.
-#[derive(Clone, Copy, Debug, PartialEq, Eq)]
-pub enum ReadRefusal {
-    /// The text is refused, at a place.
-    Refused(Refusal),
-    /// Memory was wanting.
-    Memory,
-}
+use token_scanner::{Cutter, Front};
 
 /// What was read of a text.
 #[derive(Drop)]
 pub(crate) struct LinesReader {
     pub alloc: Global,
-    pub cutter: Cutter,
+    pub cutter: Cutter<NTriples>,
     pub line: Line,
     pub held: Held,
     pub refusal: Option<Refusal>,
@@ -103,6 +97,7 @@ impl LinesReader {
     {
         'tokens: while self.refusal.is_none() {
             let Some(front) = self.cutter.front(whole) else {
+                self.cutter.compact();
                 return Ok(());
             };
             match front {
@@ -151,8 +146,8 @@ impl LinesReader {
     /// What was read of the whole text.
     pub(crate) fn finish(mut self) -> Result<Records, ReadRefusal>
         requires { self.cutter.at + width self.cutter.chars < 2 ^ 41 }
-        ensures ok { IfOk result (λ r. spec.answer_of self [] ≡ spec.Answer.Read r) }
-        ensures refused { IfErr result (λ e. spec.IsRefusal e (spec.answer_of self [])) }
+        ensures ok { IfOk result (λ r. spec.answer_of self [] ≡ Answer.Read r) }
+        ensures refused { IfErr result (λ e. IsRefusal e (spec.answer_of self [])) }
     {
         match self.judged() {
             Ok(None) => Ok(self.held.into_records()),

@@ -1,10 +1,11 @@
 // The reader of bytes that come in pieces.
 ghost use Rattle.std.specs.Prelude.{◌≡◌, ℕ, ◌+◌, ◌^◌, ◌<◌, List, [], ◌∷◌, ◌++◌, OnOk, OnErr, IfOk, IfErr, IsErr, Err, true, false, length, take, ◌≤◌};
 ghost use Rattle.ntriples_reader.specs.Feeding.{promised, answer};
-ghost use Rattle.ntriples_reader.specs.Answers as answers;
+ghost use Rattle.rdf_reading.specs.Answers.{Answer, IsRefusal};
 
-use crate::lines::{LinesReader, ReadRefusal};
+use crate::lines::LinesReader;
 use rdf_chars::Utf8Steps;
+use rdf_reading::ReadRefusal;
 use rdf_terms::{Code, Records, Refusal};
 use std::alloc::{AllocError, Global};
 use std::marker::Model;
@@ -126,8 +127,8 @@ impl NtReader {
 
     /// The names and triples of all that was fed, or the first refusal.
     pub fn finish(self) -> Result<Records, ReadRefusal>
-        ensures ok { IfOk result (λ r. promised self [] ≡ answers.Answer.Read r) }
-        ensures refused { IfErr result (λ e. answers.IsRefusal e (promised self [])) }
+        ensures ok { IfOk result (λ r. promised self [] ≡ Answer.Read r) }
+        ensures refused { IfErr result (λ e. IsRefusal e (promised self [])) }
         ensures still { self.starved ≡ true → result ≡ Err ReadRefusal.Memory }
     {
         if self.starved {

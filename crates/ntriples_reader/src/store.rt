@@ -1,5 +1,6 @@
 // Names, labels and triples.
 ghost use Rattle.std.specs.Prelude.{◌≡◌, IfOk, OnOk};
+ghost use Rattle.rdf_reading.specs.Room as room;
 ghost use Rattle.ntriples_reader.specs.Storing as spec;
 ghost use Rattle.ntriples_reader.specs.Answers as answers;
 
@@ -7,9 +8,8 @@ use crate::labels::Labels;
 use crate::line::{Line, Sort};
 use crm_outside::Text;
 use ntriples_tokens::Kind;
-use rdf_terms::{
-    Code, Literal, NameFault, Names, Records, Refusal, Term, Triple, TripleFault, Triples,
-};
+use rdf_reading::{add_triple, iri_term, literal_term};
+use rdf_terms::{Code, Literal, Names, Records, Refusal, Term, Triple, Triples};
 use std::alloc::{AllocError, Global};
 
 /// The names, labels and triples of the lines so far.
@@ -27,18 +27,6 @@ pub(crate) struct Held {
     pub limit: Option<Refusal>,
 }
 
-// The term of an IRI, if there is room.
-fn iri(names: &mut Names, text: &str) -> Result<Option<Term>, AllocError>
-    ensures term { IfOk result (λ t. t ≡ spec.iri_term names.old text.now) }
-    ensures names { OnOk result (names.new ≡ spec.iri_names names.old text.now) }
-{
-    match names.iri(text) {
-        Ok(term) => Ok(Some(term)),
-        Err(NameFault::TooMany) => Ok(None),
-        Err(NameFault::Memory) => Err(AllocError),
-    }
-}
-
 // The term of a literal, if there is room.
 fn literal(
     alloc: Global,
@@ -46,8 +34,8 @@ fn literal(
     text: &str,
     line: &Line,
 ) -> Result<Option<Term>, AllocError>
-    ensures term { IfOk result (λ t. t ≡ spec.literal_term names.old (spec.literal_of text.now line.now)) }
-    ensures names { OnOk result (names.new ≡ spec.literal_names names.old (spec.literal_of text.now line.now)) }
+    ensures term { IfOk result (λ t. t ≡ room.literal_term names.old (spec.literal_of text.now line.now)) }
+    ensures names { OnOk result (names.new ≡ room.literal_names names.old (spec.literal_of text.now line.now)) }
 {
     if text.len() > 0xFFFF_FFFF {
         return Err(AllocError);
@@ -55,15 +43,12 @@ fn literal(
     let lexical = Text::from_str(alloc, text)?;
     let datatype = Text::from_str(alloc, line.datatype())?;
     let tag = Text::from_str(alloc, line.tag())?;
-    match names.literal(Literal {
+    let value = Literal {
         lexical,
         datatype,
         tag,
-    }) {
-        Ok(term) => Ok(Some(term)),
-        Err(NameFault::TooMany) => Ok(None),
-        Err(NameFault::Memory) => Err(AllocError),
-    }
+    };
+    literal_term(names, value)
 }
 
 impl Store {
@@ -78,7 +63,7 @@ impl Store {
         ensures store { OnOk result (self.new ≡ spec.node_store self.old sort text.now line.now) }
     {
         match sort {
-            Sort::Iri => iri(&mut self.names, text),
+            Sort::Iri => iri_term(&mut self.names, text),
             Sort::Blank => {
                 let n = self.labels.number(text)?;
                 Ok(Some(Term::Blank(n)))
@@ -96,17 +81,17 @@ fn add_line(alloc: Global, store: &mut Store, line: &Line) -> Result<Option<Code
     let Some(s) = store.node(alloc, line.subject_sort(), line.subject(), line)? else {
         return Ok(Some(Code::L5));
     };
-    let Some(p) = iri(&mut store.names, line.predicate())? else {
+    let Some(p) = iri_term(&mut store.names, line.predicate())? else {
         return Ok(Some(Code::L5));
     };
     let Some(o) = store.node(alloc, line.object_sort(), line.object(), line)? else {
         return Ok(Some(Code::L5));
     };
     let at = line.at();
-    match store.triples.add(Triple { s, p, o, at }) {
-        Ok(_) => Ok(None),
-        Err(TripleFault::TooMany) => Ok(Some(Code::L4)),
-        Err(TripleFault::Memory) => Err(AllocError),
+    if add_triple(&mut store.triples, Triple { s, p, o, at })? {
+        Ok(None)
+    } else {
+        Ok(Some(Code::L4))
     }
 }
 

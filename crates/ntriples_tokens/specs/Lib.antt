@@ -1,8 +1,8 @@
 pub mod Terminals
 pub mod Steps
 pub mod Machine
-pub mod Widths
-pub mod Fronts
-pub mod Items
-pub mod Cutting
-pub mod Texts
+pub mod Scanning
+pub mod Lists
+pub mod Sampled
+pub mod Tested
+pub mod ScannerLaws

@@ -1,10 +1,10 @@
 // Laws over the definitions: each is the contract of a function with nothing to do.
 ghost use Rattle.std.specs.Prelude.{ℕ, List, ◌≡◌};
 ghost use Rattle.text_patterns.specs.Machines.{IsMachine};
+ghost use Rattle.token_scanner.specs.Texts.{AreChars};
+ghost use Rattle.token_scanner.specs.declared.place.Place.{Place};
 ghost use Rattle.ntriples_tokens.specs.Machine.{ntriples};
-ghost use Rattle.ntriples_tokens.specs.Items.{Items, items};
-ghost use Rattle.ntriples_tokens.specs.Texts.{AreItems, AreChars};
-ghost use Rattle.ntriples_tokens.specs.declared.cutter.Place.{Place};
+ghost use Rattle.ntriples_tokens.specs.Scanning.{Items, items, AreItems};
 
 /// The table's steps are those of the terminals' spellings.
 pub fn table_is_a_machine()

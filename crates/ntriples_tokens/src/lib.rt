@@ -2,12 +2,10 @@
 #![tactic(auto)]
 
 mod classes;
-mod cutter;
-mod front;
 mod kinds;
 mod laws;
 mod states;
+mod syntax;
 
-pub use cutter::{Cutter, Place};
-pub use front::Front;
 pub use kinds::Kind;
+pub use syntax::NTriples;

@@ -1,13 +1,13 @@
 // What is read of a token, and what one more character does.
 ghost use Rattle.std.specs.Prelude.{◌≡◌, true, Some, None};
-ghost use Rattle.ntriples_tokens.specs.Steps.{next, accepts, next_escape, next_text_escape, if_label};
+ghost use Rattle.ntriples_tokens.specs.Steps.{next, accepts, is_final, next_escape, next_text_escape, if_label};
 
 use crate::Kind;
 use crate::classes::Class;
 
 /// How much of a numeric escape is read.
 #[derive(Clone, Copy)]
-pub(crate) enum Escape {
+pub enum Escape {
     Slash,
     First,
     Four,
@@ -32,7 +32,7 @@ pub(crate) enum Escaped {
 
 /// What is read of a token.
 #[derive(Clone, Copy)]
-pub(crate) enum State {
+pub enum State {
     Start,
     Iri,
     IriEscape(Escape),
@@ -199,5 +199,15 @@ impl State {
             State::Lines => Some(Kind::Eol),
             _ => None,
         }
+    }
+
+    /// Whether no token goes on behind the state.
+    pub(crate) fn is_final(self) -> bool
+        ensures { result ≡ is_final self }
+    {
+        matches!(
+            self,
+            State::IriEnd | State::TextEnd | State::CaretTwo | State::Stop
+        )
     }
 }

@@ -1,5 +1,5 @@
 -- The texts of names are UTF-8, and so is a line.
-use Rattle.std.proofs.Common.{ℕ, List, [], ◌∷◌, ◌++◌, ◌≡◌, ◌≤◌, ◌<◌, length, refl, ap, sym, ◌∙◌, subst, arith, inl, inr, append_assoc}
+use Rattle.std.proofs.Common.{ℕ, List, [], ◌∷◌, ◌++◌, ◌≡◌, ◌≤◌, ◌<◌, length, refl, ap, sym, ◌∙◌, subst, arith, inl, inr, append_assoc, append-nil}
 use Rattle.std.proofs.lemmas.Str.{IsUtf8-append, IsUtf8-nil, IsUtf8-encode, encode_ascii, IsUtf8-from_ascii}
 use Rattle.std.proofs.lemmas.Bool.Decides.{nat_tests}
 use Rattle.std.proofs.lemmas.Bool.{cond_both, and_parts, cases_lt, cond-true, cond-false, le-ltb}
@@ -64,13 +64,9 @@ high_bytes c h =
 
 char_utf8 : (c : ℕ) → scalar c ≡ true → IsUtf8 (escaped (encode c))
 char_utf8 c good = elim (cases_lt c 128) [
-  | inl low ↦ subst (λ x. IsUtf8 (escaped x)) (sym (encode_ascii c low)) (subst IsUtf8 (sym (append_nil (escape_by c (escape_letter c)))) (low_utf8 (escape_by c (escape_letter c)) (low_escape c low)))
+  | inl low ↦ subst (λ x. IsUtf8 (escaped x)) (sym (encode_ascii c low)) (subst IsUtf8 (sym (append-nil (escape_by c (escape_letter c)))) (low_utf8 (escape_by c (escape_letter c)) (low_escape c low)))
   | inr high ↦ subst IsUtf8 (sym (high_same (encode c) (high_bytes c high))) (IsUtf8-encode c good)
 ]
-  where
-    append_nil : (s : List ℕ) → s ++ [] ≡ s
-    append_nil [] = refl
-    append_nil (x ∷ s) = ap (λ y. x ∷ y) (append_nil s)
 
 chars_utf8 : (chars : List ℕ) → scalars chars ≡ true → IsUtf8 (escaped (encodes chars))
 chars_utf8 [] h = IsUtf8-nil

@@ -1,7 +1,8 @@
 -- The canonical line of a triple.
-use Rattle.std.specs.Prelude.{◌≡◌, ◌==◌, ℕ, List, [], ◌∷◌, ◌++◌, true, Bool, cond, if◌then◌else◌, codes, unwrap_or, Option, None, Some, length, slice_get}
+use Rattle.std.specs.Prelude.{◌==◌, ℕ, List, [], ◌∷◌, ◌++◌, Bool, cond, if◌then◌else◌, codes, unwrap_or, Option, None, Some, length, slice_get}
 use Rattle.std.specs.Str.{bytes_eq}
 use Rattle.std.specs.Fmt.{decimal}
+use Rattle.rdf_vocabulary.specs.Iris.{xsd_string}
 use Rattle.rdf_terms.specs.declared.terms.Term.{Term}
 use Rattle.rdf_terms.specs.declared.terms.Term.TheVariants.{Iri, Blank, Lit}
 use Rattle.rdf_terms.specs.declared.terms.Triple.{Triple}
@@ -21,8 +22,8 @@ abbrev pub escaped : List ℕ → List ℕ
 escaped [] = []
 escaped (b ∷ text) = escape_by b (escape_letter b) ++ escaped text
 
-unfoldable pub is_xsd_string : List ℕ → Bool
-is_xsd_string datatype = bytes_eq datatype (codes "http://www.w3.org/2001/XMLSchema#string")
+abbrev pub is_xsd_string : List ℕ → Bool
+is_xsd_string datatype = bytes_eq datatype xsd_string
 
 abbrev pub iri_text : List ℕ → List ℕ
 iri_text iri = codes "<" ++ (iri ++ codes ">")

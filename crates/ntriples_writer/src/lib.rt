@@ -2,7 +2,5 @@
 #![tactic(auto)]
 
 mod lines;
-#[cfg(test)]
-mod tests;
 
-pub use lines::{WriteRefusal, append_term, text_of, write_triple};
+pub use lines::{WriteRefusal, append_term, print_triple, text_of, write_triple};

@@ -8,6 +8,7 @@ ghost use Rattle.ntriples_writer.specs.Lines.{canonical_line};
 use crm_outside::{PrintFault, Sink, Text, print_text};
 use itoa::Buffer;
 use rdf_terms::{Literal, Names, Term, Triple};
+use rdf_vocabulary::xsd_string;
 use std::alloc::{AllocError, Global};
 
 /// Why a line was not written whole: `Failed` where a call on the sink failed, `Memory` where memory was wanting.
@@ -49,11 +50,10 @@ fn append_iri(iri: &str, out: &mut Vec<u8>) -> Result<(), AllocError>
     out.extend_from_slice(b">")
 }
 
-#[tactic(auto, unfolding(crate::specs::Lines::is_xsd_string))]
 fn is_xsd_string(datatype: &str) -> bool
     ensures { result ≡ spec.is_xsd_string datatype.now }
 {
-    datatype == "http://www.w3.org/2001/XMLSchema#string"
+    datatype == xsd_string()
 }
 
 fn append_datatype(datatype: &str, out: &mut Vec<u8>) -> Result<(), AllocError>
@@ -114,23 +114,38 @@ pub fn append_term(names: &Names, term: Term, out: &mut Vec<u8>) -> Result<(), A
 }
 
 #[tactic(auto, unfolding(crate::specs::Lines::canonical_line))]
-fn line_of(alloc: Global, names: &Names, t: Triple) -> Result<Vec<u8>, AllocError>
-    ensures line { IfOk result (λ line. line.items ≡ canonical_line names.now t) }
+fn append_line(names: &Names, t: Triple, line: &mut Vec<u8>) -> Result<(), AllocError>
+    ensures appended { OnOk result (line.new.items ≡ line.old.items ++ canonical_line names.now t) }
     ensures utf8 { OnOk result (IsUtf8 (canonical_line names.now t)) }
 {
-    let mut line = Vec::new(alloc);
-    append_term(names, t.s, &mut line)?;
+    append_term(names, t.s, line)?;
     line.push(b' ')?;
-    append_term(names, t.p, &mut line)?;
+    append_term(names, t.p, line)?;
     line.push(b' ')?;
-    append_term(names, t.o, &mut line)?;
+    append_term(names, t.o, line)?;
     line.extend_from_slice(b" .\n")?;
-    Ok(line)
+    Ok(())
 }
 
-/// Appends the canonical line of a triple, with its line feed.
+/// Appends the canonical line of a triple, with its line feed. `line` is a buffer that is written over.
 ///
 /// At an error a front of the line is appended; `Failed` comes only where a call on the sink failed.
+pub fn print_triple<W: Sink>(
+    names: &Names,
+    t: Triple,
+    line: &mut Vec<u8>,
+    out: &mut W,
+) -> Result<(), WriteRefusal>
+    ensures { Prints W.written W.faults W.sure out.old out.new (canonical_line names.now t) result }
+{
+    line.clear();
+    let Ok(()) = append_line(names, t, line) else {
+        return Err(PrintFault::Memory);
+    };
+    print_text(out, line.as_slice())
+}
+
+/// Appends the canonical line of a triple, with its line feed, as `print_triple` does with a buffer of its own.
 pub fn write_triple<W: Sink>(
     alloc: Global,
     names: &Names,
@@ -139,16 +154,14 @@ pub fn write_triple<W: Sink>(
 ) -> Result<(), WriteRefusal>
     ensures { Prints W.written W.faults W.sure out.old out.new (canonical_line names.now t) result }
 {
-    let Ok(line) = line_of(alloc, names, t) else {
-        return Err(PrintFault::Memory);
-    };
-    print_text(out, line.as_slice())
+    print_triple(names, t, &mut Vec::new(alloc), out)
 }
 
 /// The canonical line of a triple, with its line feed.
 pub fn text_of(alloc: Global, names: &Names, t: Triple) -> Result<Text, AllocError>
     ensures { IfOk result (λ text. text ≡ canonical_line names.now t) }
 {
-    let line = line_of(alloc, names, t)?;
+    let mut line = Vec::new(alloc);
+    append_line(names, t, &mut line)?;
     Text::from_str(alloc, str::from_utf8(line.as_slice()).unwrap())
 }

@@ -1,5 +1,5 @@
 -- What is kept stands for the bytes that came, and what is said of them is right.
-use Rattle.std.proofs.Common.{ℕ, zero, suc, List, [], ◌∷◌, ◌++◌, ◌≡◌, ◌<◌, ◌≤◌, ◌+◌, ◌-◌, length, take, drop, refl, ap, sym, ◌∙◌, arith, inl, inr, subst, append_assoc, length-append}
+use Rattle.std.proofs.Common.{ℕ, zero, suc, List, [], ◌∷◌, ◌++◌, ◌≡◌, ◌<◌, ◌≤◌, ◌+◌, ◌-◌, length, take, drop, refl, ap, sym, ◌∙◌, arith, inl, inr, subst, append_assoc, length-append, append-nil}
 use Rattle.std.proofs.Math.Seq.{take-length}
 use Rattle.std.proofs.lemmas.List.{take-append-le, take-append-drop}
 use Rattle.std.proofs.lemmas.Bool.Decides.{nat_tests}
@@ -17,10 +17,6 @@ use Rattle.rdf_chars.specs.declared.utf8.Step.TheVariants.{Idle, Last, Two, Thre
 use Rattle.rdf_chars.specs.declared.utf8.Pushed.{Pushed}
 use Rattle.rdf_chars.specs.declared.utf8.Pushed.TheVariants.{Inside, Whole}
 use Rattle.rdf_chars.proofs.Bytes.{WantsMore, first_leads, first_back, next_leads, next_back}
-
-append_nil : (s : List ℕ) → s ++ [] ≡ s
-append_nil [] = refl
-append_nil (c ∷ s) = ap (λ x. c ∷ x) (append_nil s)
 
 -- UTF-8 behind UTF-8 is what is left of it
 strip : (chars rest : List ℕ) → IsUtf8 (encodes chars ++ rest) → IsUtf8 rest
@@ -75,7 +71,7 @@ no_end s part h i j o c k rest e =
     let shown = o.back (b ∷ on.1) on.2 on.3 in
     let whole : encode c ++ (rest ++ (drop k part ++ (b ∷ on.1))) ≡ encode on.2 ++ [] =
     sym (append_assoc (encode c) rest (drop k part ++ (b ∷ on.1))) ∙ ap (λ x. x ++ (drop k part ++ (b ∷ on.1))) (sym e)
-    ∙ sym (append_assoc (take k part) (drop k part) (b ∷ on.1)) ∙ ap (λ x. x ++ (b ∷ on.1)) (take-append-drop k part) ∙ sym shown.1 ∙ sym (append_nil (encode on.2)) in
+    ∙ sym (append_assoc (take k part) (drop k part) (b ∷ on.1)) ∙ ap (λ x. x ++ (b ∷ on.1)) (take-append-drop k part) ∙ sym shown.1 ∙ sym (append-nil (encode on.2)) in
     let nothing = (encode_same c on.2 (rest ++ (drop k part ++ (b ∷ on.1))) [] whole).1 in
     nil_apart b (rest ++ drop k part) on.1 (append_assoc rest (drop k part) (b ∷ on.1) ∙ nothing)
 
@@ -132,7 +128,7 @@ pub one_more : (front part chars : List ℕ) (n : ℕ) → IsChars chars front �
 one_more front part chars n u p =
     let x = p.back [] n (refl, refl) in (
       scalars_more chars n u.0 x.0,
-      encodes-append chars (n ∷ []) ∙ ap (λ s. encodes chars ++ s) (append_nil (encode n) ∙ x.1 ∙ append_nil part) ∙ ap (λ s. s ++ part) u.1,
+      encodes-append chars (n ∷ []) ∙ ap (λ s. encodes chars ++ s) (append-nil (encode n) ∙ x.1 ∙ append-nil part) ∙ ap (λ s. s ++ part) u.1,
     )
 
 said_whole : (front part : List ℕ) (n : ℕ) → IsUtf8 front → Part (Whole n) part → (chars : List ℕ) × IsChars (chars ++ n ∷ []) (front ++ part)
@@ -143,7 +139,7 @@ chars_utf8 bytes chars h = (chars, h)
 
 cut_first : (e part rest more : List ℕ) → e ++ rest ≡ part ++ more → (length e < length part) → take (length e) part ≡ e ++ []
 cut_first e part rest more same short =
-    sym (take-append-le (length e) part more (omega (arith, short))) ∙ ap (take (length e)) (sym same) ∙ take-append-le (length e) e rest (omega arith) ∙ take-length e ∙ sym (append_nil e)
+    sym (take-append-le (length e) part more (omega (arith, short))) ∙ ap (take (length e)) (sym same) ∙ take-append-le (length e) e rest (omega arith) ∙ take-length e ∙ sym (append-nil e)
 
 cut_rest : (e part rest more : List ℕ) → e ++ rest ≡ part ++ more → (length part ≤ length e) → e ≡ part ++ drop (length part) e
 cut_rest e part rest more same long =
@@ -172,8 +168,8 @@ bad_length front part u p = front_length front part u p.some (λ c k rest good l
   where
     ends : (c : ℕ) (rest : List ℕ) → scalar c ≡ true → part ≡ encode c ++ rest → ⊥
     ends c rest good all = elim (cases_lt (length (encode c)) (length part)) [
-      | inl short ↦ p.inner c (length (encode c)) [] short (cut_first (encode c) part rest [] (sym all ∙ sym (append_nil part)) short)
-      | inr long ↦ p.leads (drop (length part) (encode c)) c good (cut_rest (encode c) part rest [] (sym all ∙ sym (append_nil part)) long)
+      | inl short ↦ p.inner c (length (encode c)) [] short (cut_first (encode c) part rest [] (sym all ∙ sym (append-nil part)) short)
+      | inr long ↦ p.leads (drop (length part) (encode c)) c good (cut_rest (encode c) part rest [] (sym all ∙ sym (append-nil part)) long)
     ]
 
 pub open_length : (s : Step) (front part : List ℕ) → IsSmall s → (s ≡ Idle → ⊥) → (s ≡ Bad → ⊥) → IsUtf8 front → Opens s part → IsUtf8Length (front ++ part) (length front)
@@ -183,7 +179,7 @@ pub open_not : (s : Step) (front part : List ℕ) → IsSmall s → (s ≡ Idle 
 open_not s front part h i j u o = ends_not front part u o.some (λ c k rest good low e. no_end s part h i j o c k rest e)
 
 one_char : (c : ℕ) → scalar c ≡ true → IsUtf8 (encode c)
-one_char c good = (c ∷ [], (and_from (scalar c) true good refl, append_nil (encode c)))
+one_char c good = (c ∷ [], (and_from (scalar c) true good refl, append-nil (encode c)))
 
 open_begins : (s : Step) (front part : List ℕ) → IsSmall s → (s ≡ Idle → ⊥) → (s ≡ Bad → ⊥) → IsUtf8 front → Opens s part → BeginsUtf8 (front ++ part)
 open_begins s front part h i j u o =
@@ -285,7 +281,7 @@ inner_ends s from bytes i j small (front, part, e, u, at, o) = (
 
 pub end_of : (s : Step) (from : ℕ) (bytes : List ℕ) → IsSmall s → is_idle s ≡ false → Inner s from bytes → (IsUtf8 bytes → ⊥) × IsUtf8Length bytes from
 end_of Idle from bytes small h inner = absurd (true≢false h)
-end_of Bad from bytes small h inner = (λ u. inner.0 ([], subst IsUtf8 (sym (append_nil bytes)) u), inner.1)
+end_of Bad from bytes small h inner = (λ u. inner.0 ([], subst IsUtf8 (sym (append-nil bytes)) u), inner.1)
 end_of (Last n) from bytes small h inner = inner_ends (Last n) from bytes (λ e. cc e) (λ e. cc e) small inner
 end_of (Two n low high) from bytes small h inner = inner_ends (Two n low high) from bytes (λ e. cc e) (λ e. cc e) small inner
 end_of (Three n low high) from bytes small h inner = inner_ends (Three n low high) from bytes (λ e. cc e) (λ e. cc e) small inner

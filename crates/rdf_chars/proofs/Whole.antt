@@ -1,5 +1,5 @@
 -- What is said of bytes one by one is what UTF-8 says of them all.
-use Rattle.std.proofs.Common.{ℕ, List, [], ◌∷◌, ◌++◌, ◌≡◌, ◌<◌, ◌+◌, length, refl, ap, sym, ◌∙◌, arith, subst, append_assoc, length-append}
+use Rattle.std.proofs.Common.{ℕ, List, [], ◌∷◌, ◌++◌, ◌≡◌, ◌<◌, ◌+◌, length, refl, ap, sym, ◌∙◌, arith, subst, append_assoc, length-append, append-nil}
 use Rattle.std.proofs.lemmas.Bool.{cond_both, ltb-true}
 use Rattle.std.specs.Prelude.{true, nat_lt, nat_le, ◌&&◌, ◌==◌, Option, None, Some, Result, Ok, Err}
 use Rattle.std.specs.Str.{IsUtf8}
@@ -14,10 +14,6 @@ use Rattle.rdf_chars.specs.declared.utf8.Step.TheVariants.{Idle, Last, Two, Thre
 use Rattle.rdf_chars.specs.declared.utf8.Pushed.{Pushed}
 use Rattle.rdf_chars.specs.declared.utf8.Pushed.TheVariants.{Inside, Whole}
 use Rattle.rdf_chars.proofs.Standing.{Part, one_more, no_more, bad_length, bad_longer, bad_more, first_part, next_part, part_opens, begun_on, pushed_on, open_not, open_length}
-
-append_nil : (s : List ℕ) → s ++ [] ≡ s
-append_nil [] = refl
-append_nil (c ∷ s) = ap (λ x. c ∷ x) (append_nil s)
 
 -- the numbers stay small
 begun_small : (t : ℕ) → IsSmallPushed (begun t)
@@ -56,7 +52,7 @@ before_rest chars bytes c (Chars more) r = subst (λ x. IsChars x bytes) (append
 before_rest chars bytes c (BadAt place) r = r
 
 bad_all : (bytes done : List ℕ) (n : ℕ) → (BeginsUtf8 done → ⊥) → IsUtf8Length done n → (IsUtf8 (done ++ bytes) → ⊥) × IsUtf8Length (done ++ bytes) n
-bad_all [] done n h l = (λ u. h ([], u), subst (λ x. IsUtf8Length x n) (sym (append_nil done)) l)
+bad_all [] done n h l = (λ u. h ([], u), subst (λ x. IsUtf8Length x n) (sym (append-nil done)) l)
 bad_all (b ∷ bytes) done n h l =
     let inner = bad_all bytes (done ++ b ∷ []) n (bad_more done b h) (bad_longer done b n h l) in
     (λ u. h (b ∷ bytes, u), subst (λ x. IsUtf8Length x n) (append_assoc done (b ∷ []) bytes) inner.1)
@@ -108,14 +104,14 @@ inner_end : (s : Step) (from : ℕ) (done chars : List ℕ) → (s ≡ Idle → 
     → (scalars chars ≡ true) × (part : List ℕ) × (done ≡ encodes chars ++ part) × (from ≡ length (encodes chars)) × Opens s part → (IsUtf8 (done ++ []) → ⊥) × IsUtf8Length (done ++ []) from
 inner_end s from done chars i j small (good, part, e, at, o) =
     let u : IsUtf8 (encodes chars) = (chars, (good, refl)) in
-    let whole : encodes chars ++ part ≡ done ++ [] = sym e ∙ sym (append_nil done) in (
+    let whole : encodes chars ++ part ≡ done ++ [] = sym e ∙ sym (append-nil done) in (
       λ w. open_not s (encodes chars) part small i j u o (subst IsUtf8 (sym whole) w),
       subst (λ x. IsUtf8Length x from) whole (subst (IsUtf8Length (encodes chars ++ part)) (sym at) (open_length s (encodes chars) part small i j u o)),
     )
 
 end_right : (v : Fed) (s : Step) → v.step ≡ s → (done chars : List ℕ) → IsSmall s → Known s v.from done chars → Rest chars (done ++ []) (decoded (record { step = s; from = v.from; count = v.count }) [])
 end_right v Idle e done chars small known =
-    (subst (λ x. scalars x ≡ true) (sym (append_nil chars)) known.0, ap encodes (append_nil chars) ∙ sym known.1 ∙ sym (append_nil done))
+    (subst (λ x. scalars x ≡ true) (sym (append-nil chars)) known.0, ap encodes (append-nil chars) ∙ sym known.1 ∙ sym (append-nil done))
 end_right v Bad e done chars small known = absurd known
 end_right v (Last n) e done chars small known = inner_end (Last n) v.from done chars (λ x. cc x) (λ x. cc x) small known
 end_right v (Two n low high) e done chars small known = inner_end (Two n low high) v.from done chars (λ x. cc x) (λ x. cc x) small known

@@ -4,8 +4,6 @@
 mod escapes;
 pub mod laws;
 mod sets;
-#[cfg(test)]
-mod tests;
 mod utf8;
 
 pub use escapes::{read_echar, read_uchar};

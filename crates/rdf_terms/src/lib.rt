@@ -3,8 +3,6 @@
 
 mod names;
 mod terms;
-#[cfg(test)]
-mod tests;
 mod triples;
 
 pub use names::{NAME_LIMIT, NameFault, Names};

@@ -1,15 +1,11 @@
 -- What a machine has read: the state stands for what the kinds still want, and the last end is known.
-use Rattle.std.proofs.Common.{ℕ, List, [], ◌∷◌, ◌++◌, ◌≡◌, ◌<◌, ◌≤◌, ◌+◌, ◌-◌, length, take, drop, get_or, refl, ap, sym, ◌∙◌, arith, inl, inr, subst, append_assoc, length-append}
+use Rattle.std.proofs.Common.{ℕ, List, [], ◌∷◌, ◌++◌, ◌≡◌, ◌<◌, ◌≤◌, ◌+◌, ◌-◌, length, take, drop, get_or, refl, ap, sym, ◌∙◌, arith, inl, inr, subst, append_assoc, length-append, append-nil}
 use Rattle.std.proofs.Math.Seq.{take-length, take-add}
 use Rattle.std.proofs.lemmas.List.{take_more, take-append-le, length-take-le}
 use Rattle.std.proofs.lemmas.Bool.{cases_lt}
 use Rattle.std.specs.Prelude.{true, false, Option, None, Some}
 use Rattle.text_patterns.specs.Patterns.{Matches}
 use Rattle.text_patterns.specs.Machines.{Machine, rest_after, IsMachine, Spells, IsFirst, HasNone, IsOpen, Settles, NoneIn, IsLast, last_after, Reads}
-
-append_nil : (s : List ℕ) → s ++ [] ≡ s
-append_nil [] = refl
-append_nil (c ∷ s) = ap (λ x. c ∷ x) (append_nil s)
 
 one_longer : (text : List ℕ) (i : ℕ) (t : List ℕ) → i < length text → take (i + 1) text ++ t ≡ take i text ++ (get_or text i 0 ∷ t)
 one_longer text i t h = ap (λ x. x ++ t) (take_more text i 0 h) ∙ append_assoc (take i text) (get_or text i 0 ∷ []) t
@@ -49,8 +45,8 @@ module _ {State Kind : Type 0} (m : Machine State Kind) (right : IsMachine m) wh
         leads = leads;
         back = back;
         ending = last_step text i q last a r.ending
-            (λ k s. subst (Spells m k) (append_nil (take (i + 1) text)) (back k [] s))
-            (λ k s. leads k [] (subst (Spells m k) (sym (append_nil (take (i + 1) text))) s)) e;
+            (λ k s. subst (Spells m k) (append-nil (take (i + 1) text)) (back k [] s))
+            (λ k s. leads k [] (subst (Spells m k) (sym (append-nil (take (i + 1) text))) s)) e;
       }
 
   -- The read front begins a spelling.
@@ -68,10 +64,10 @@ module _ {State Kind : Type 0} (m : Machine State Kind) (right : IsMachine m) wh
 
   -- A whole text spells a kind exactly where the state behind it accepts the kind.
   pub reads_whole : (text : List ℕ) (q : State) (last : Option (Kind × ℕ)) → Reads m text (length text) q last → (k : Kind) → m.accepts q ≡ Some k → Spells m k text
-  reads_whole text q last r k e = subst (Spells m k) (append_nil (take (length text) text) ∙ take-length text) (r.back k [] (right.ends q k e))
+  reads_whole text q last r k e = subst (Spells m k) (append-nil (take (length text) text) ∙ take-length text) (r.back k [] (right.ends q k e))
 
   pub reads_whole_alone : (text : List ℕ) (q : State) (last : Option (Kind × ℕ)) → Reads m text (length text) q last → (k : Kind) → Spells m k text → m.accepts q ≡ Some k
-  reads_whole_alone text q last r k s = right.ends_alone q k (r.leads k [] (subst (Spells m k) (sym (append_nil (take (length text) text) ∙ take-length text)) s))
+  reads_whole_alone text q last r k s = right.ends_alone q k (r.leads k [] (subst (Spells m k) (sym (append-nil (take (length text) text) ∙ take-length text)) s))
 
   -- a front of the text that goes past the first n characters
   front : (text more : List ℕ) (n i : ℕ) → n ≤ length text → n ≤ i → (t : List ℕ) × (take i (text ++ more) ≡ take n text ++ t)

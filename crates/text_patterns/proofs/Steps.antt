@@ -1,5 +1,5 @@
 -- A table whose tests pass is a machine.
-use Rattle.std.proofs.Common.{ℕ, List, [], ◌∷◌, ◌++◌, ◌≡◌, ◌<◌, length, refl, ap, sym, ◌∙◌, subst}
+use Rattle.std.proofs.Common.{ℕ, List, [], ◌∷◌, ◌++◌, ◌≡◌, ◌<◌, length, refl, ap, sym, ◌∙◌, subst, append-nil}
 use Rattle.std.proofs.lemmas.Bool.{false≢true, and_parts, eqb-true, eq-eqb, ltb-true}
 use Rattle.std.specs.Prelude.{true, false, cond, ◌||◌, nat_lt, Option, None, Some}
 use Rattle.text_patterns.specs.Patterns.{Matches}
@@ -51,12 +51,8 @@ table_shut t right q e k s m = shut_ends (rest_of t q k) s (subst (λ b. cond b 
 table_alive : {State Kind Class : Type 0} (t : Table State Kind Class) (right : IsTable t) (q : State) → Matches (rest_of t q (t.towards q)) (t.way_on q)
 table_alive t right q =
     let both = and_parts (t.is_final q || nat_lt 0 (length (t.way_on q))) (nullable (after (rest_of t q (t.towards q)) (t.way_on q))) (right.going q) in
-    subst (λ s. Matches (rest_of t q (t.towards q)) s) (append_nil (t.way_on q))
+    subst (λ s. Matches (rest_of t q (t.towards q)) s) (append-nil (t.way_on q))
     (after-gives (rest_of t q (t.towards q)) (t.way_on q) [] (nullable-gives (after (rest_of t q (t.towards q)) (t.way_on q)) both.1))
-  where
-    append_nil : (s : List ℕ) → s ++ [] ≡ s
-    append_nil [] = refl
-    append_nil (c ∷ s) = ap (λ x. c ∷ x) (append_nil s)
 
 table_goes : {State Kind Class : Type 0} (t : Table State Kind Class) (right : IsTable t) (q : State) → t.is_final q ≡ false → 0 < length (t.way_on q)
 table_goes t right q e =

@@ -1,5 +1,5 @@
 -- How many bytes of a character came that has begun.
-use Rattle.std.proofs.Common.{ℕ, List, [], ◌∷◌, ◌++◌, ◌≡◌, ◌≤◌, ◌+◌, ◌-◌, length, take, drop, refl, ap, sym, ◌∙◌, subst, arith, inl, inr, append_assoc, length-append}
+use Rattle.std.proofs.Common.{ℕ, List, [], ◌∷◌, ◌++◌, ◌≡◌, ◌≤◌, ◌+◌, ◌-◌, length, take, drop, refl, ap, sym, ◌∙◌, subst, arith, inl, inr, append_assoc, length-append, append-nil}
 use Rattle.std.proofs.Math.Seq.{take-length, take-add}
 use Rattle.std.proofs.lemmas.List.{take-append-le, take-append-drop, length-drop}
 use Rattle.std.proofs.lemmas.Bool.{cases_lt, and_parts, and_from}
@@ -9,10 +9,6 @@ use Rattle.std.specs.Str.{IsUtf8}
 use lib.Utf8.{scalar, scalars, encode, encodes}
 use Rattle.rdf_chars.specs.Utf8.{BeginsUtf8, IsUtf8Length}
 use Rattle.rdf_chars.proofs.Standing.{stripped}
-
-append_nil : (s : List ℕ) → s ++ [] ≡ s
-append_nil [] = refl
-append_nil (c ∷ s) = ap (λ x. c ∷ x) (append_nil s)
 
 pub begun_none : (bytes : List ℕ) → IsUtf8 bytes → (0 ≤ length bytes) × IsUtf8Length bytes (length bytes - 0)
 begun_none bytes u = (
@@ -42,7 +38,7 @@ begun_more bytes b n i none =
     )
 
 one_char : (c : ℕ) → scalar c ≡ true → IsUtf8 (encode c)
-one_char c good = (c ∷ [], (and_from (scalar c) true good refl, append_nil (encode c)))
+one_char c good = (c ∷ [], (and_from (scalar c) true good refl, append-nil (encode c)))
 
 -- a character that has begun takes no more than three bytes so far
 small_by : (bytes more : List ℕ) (n : ℕ) → n ≤ length bytes → IsUtf8Length bytes (length bytes - n) → IsUtf8 (drop (length bytes - n) bytes ++ more) → n ≤ 3

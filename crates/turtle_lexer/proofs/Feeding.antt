@@ -1,5 +1,5 @@
 -- What a byte does to what is ahead.
-use Rattle.std.proofs.Common.{ℕ, List, [], ◌∷◌, ◌++◌, ◌≡◌, refl, ap, sym, ◌∙◌, subst, append_assoc, take, drop, arith, ◌+◌, ◌<◌, ◌≤◌}
+use Rattle.std.proofs.Common.{ℕ, List, [], ◌∷◌, ◌++◌, ◌≡◌, refl, ap, sym, ◌∙◌, subst, append_assoc, take, drop, arith, ◌+◌, ◌<◌, ◌≤◌, append-nil}
 use Rattle.std.proofs.Math.Seq.{take-add}
 use Rattle.std.proofs.lemmas.Bool.{true≢false}
 use Rattle.std.proofs.lemmas.Str.{len_utf8_bounds}
@@ -13,19 +13,16 @@ use Rattle.rdf_chars.specs.Decoding.{Decoded, decoded, by_said, before}
 use Rattle.rdf_chars.specs.Decoding.Decoded.{Chars, BadAt}
 use Rattle.rdf_chars.proofs.Whole.{stays_bad}
 use Rattle.rdf_terms.specs.declared.terms.Refusal.{Refusal}
-use Rattle.turtle_tokens.specs.Widths.{width}
-use Rattle.turtle_tokens.proofs.Widths.{width_push}
+use Rattle.token_scanner.specs.Widths.{width}
+use Rattle.token_scanner.proofs.Widths.{width_push}
 use Rattle.turtle_lexer.proofs.Begun.{begun_none, begun_more, begun_small}
-use Rattle.turtle_tokens.specs.Items.{Kept, items, items_of}
+use Rattle.token_scanner.specs.Items.{Kept}
+use Rattle.turtle_tokens.specs.Scanning.{items, items_of}
 use Rattle.turtle_lexer.specs.Streams.{Stream, Ahead, by_chars, stream}
 use Rattle.turtle_lexer.specs.Lexing.{Lexing, IsFed, stopped, by_code, IsBad, Knows, HasRoom, IsEmptied, IsBegun}
 
-append_nil : (s : List ℕ) → s ++ [] ≡ s
-append_nil [] = refl
-append_nil (c ∷ s) = ap (λ x. c ∷ x) (append_nil s)
-
 begins_all : (bytes : List ℕ) → IsUtf8 bytes → BeginsUtf8 bytes
-begins_all bytes u = ([], subst IsUtf8 (sym (append_nil bytes)) u)
+begins_all bytes u = ([], subst IsUtf8 (sym (append-nil bytes)) u)
 
 begins_front : (bytes more : List ℕ) → BeginsUtf8 (bytes ++ more) → BeginsUtf8 bytes
 begins_front bytes more b = (more ++ b.0, subst IsUtf8 (append_assoc bytes more b.0) b.1)

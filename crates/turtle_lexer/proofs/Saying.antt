@@ -8,9 +8,10 @@ use Rattle.rdf_chars.specs.Decoding.Decoded.{Chars, BadAt}
 use Rattle.rdf_terms.specs.declared.terms.Code.TheVariants.{U1, G1, L2}
 use Rattle.rdf_terms.specs.declared.terms.Refusal.{Refusal}
 use Rattle.turtle_tokens.specs.declared.kinds.TokenKind.{TokenKind}
-use Rattle.turtle_tokens.specs.declared.front.Front.TheVariants.{Token as FrontToken, Nothing, Long}
-use Rattle.turtle_tokens.specs.Widths.{width}
-use Rattle.turtle_tokens.specs.Items.{Kept, items, items_of, front_items, behind}
+use Rattle.token_scanner.specs.declared.front.Front.TheVariants.{Token as FrontToken, Nothing, Long}
+use Rattle.token_scanner.specs.Widths.{width}
+use Rattle.token_scanner.specs.Items.{Kept}
+use Rattle.turtle_tokens.specs.Scanning.{items, items_of, front_items, behind}
 use Rattle.turtle_lexer.specs.declared.token.Token.{Token}
 use Rattle.turtle_lexer.specs.declared.token.Next.{Next}
 use Rattle.turtle_lexer.specs.declared.token.Next.TheVariants as next

@@ -8,10 +8,11 @@ use Rattle.rdf_chars.specs.Steps as steps
 use Rattle.rdf_chars.specs.Decoding.{Decoded, decoded, AreBytes, Decodes}
 use Rattle.rdf_chars.specs.Decoding.Decoded.{Chars, BadAt}
 use Rattle.rdf_chars.proofs.Whole.{decoded_right}
-use Rattle.turtle_tokens.specs.declared.cutter.Place.TheVariants.{Beginning}
-use Rattle.turtle_tokens.specs.Items.{items}
-use Rattle.turtle_tokens.specs.Texts.{AreChars}
-use Rattle.turtle_tokens.proofs.Saying.{texts_say}
+use Rattle.token_scanner.specs.declared.place.Place.TheVariants.{Beginning}
+use Rattle.turtle_tokens.specs.Scanning.{scanner, items}
+use Rattle.token_scanner.specs.Texts.{AreChars}
+use Rattle.token_scanner.proofs.Saying.{texts_say}
+use Rattle.turtle_tokens.specs.ScannerLaws.{right}
 use Rattle.turtle_lexer.specs.Streams.{by_chars, text_stream, tokens}
 use Rattle.turtle_lexer.specs.Texts.{HasTokens}
 
@@ -23,7 +24,7 @@ are_chars [] h = tt
 are_chars (c ∷ chars) h = let both = and_parts (scalar c) (scalars chars) h in (scalar_small c both.0, are_chars chars both.1)
 
 right_of : (bytes : List ℕ) (d : Decoded) → Decodes bytes d → HasTokens bytes (by_chars d text_stream)
-right_of bytes (Chars chars) h = (chars, items Beginning 0 chars 0, h, texts_say Beginning chars 0 (are_chars chars h.0), refl)
+right_of bytes (Chars chars) h = (chars, items Beginning 0 chars 0, h, texts_say scanner right Beginning chars 0 (are_chars chars h.0), refl)
 right_of bytes (BadAt place) h = h
 
 pub tokens_right : (bytes : List ℕ) → AreBytes bytes → HasTokens bytes (tokens bytes)

@@ -10,8 +10,9 @@ use Rattle.rdf_terms.specs.declared.terms.Code.{Code}
 use Rattle.rdf_terms.specs.declared.terms.Code.TheVariants.{U1, G1, L2}
 use Rattle.rdf_terms.specs.declared.terms.Refusal.{Refusal}
 use Rattle.turtle_tokens.specs.Machine.{turtle}
-use Rattle.turtle_tokens.specs.Widths.{width}
-use Rattle.turtle_tokens.specs.Items.{Items, Kept, items_of}
+use Rattle.token_scanner.specs.Widths.{width}
+use Rattle.turtle_tokens.specs.Scanning.{Items, items_of}
+use Rattle.token_scanner.specs.Items.{Kept}
 use Rattle.turtle_lexer.specs.declared.token.Token.{Token}
 use Rattle.turtle_lexer.specs.declared.token.Next.{Next}
 use Rattle.turtle_lexer.specs.declared.token.Next.TheVariants as next

@@ -4,10 +4,10 @@ use Rattle.rdf_chars.specs.Steps as steps
 use Rattle.rdf_chars.specs.Decoding.{Decoded, decoded}
 use Rattle.rdf_chars.specs.Decoding.Decoded.{Chars, BadAt}
 use Rattle.turtle_tokens.specs.declared.kinds.TokenKind.{TokenKind}
-use Rattle.turtle_tokens.specs.declared.cutter.Place.TheVariants.{Beginning}
-use Rattle.turtle_tokens.specs.Widths.{width}
-use Rattle.turtle_tokens.specs.Items.{Items, items}
-use Rattle.turtle_tokens.specs.Items.Items.{Stop, Bad, TooLong, Item}
+use Rattle.token_scanner.specs.declared.place.Place.TheVariants.{Beginning}
+use Rattle.token_scanner.specs.Widths.{width}
+use Rattle.turtle_tokens.specs.Scanning.{Items, items}
+use Rattle.token_scanner.specs.Items.Items.{Stop, Bad, TooLong, Item}
 use Rattle.turtle_lexer.specs.Values.{value_text, prefix_width}
 
 -- A token has its kind, its value in bytes, the length of its prefix in bytes, and the byte offsets at which it begins and ends.

@@ -2,9 +2,9 @@
 use Rattle.std.specs.Prelude.{ℕ, ◌≡◌, List}
 use Rattle.std.specs.Str.{IsUtf8}
 use Rattle.rdf_chars.specs.Utf8.{IsChars, IsUtf8Length}
-use Rattle.turtle_tokens.specs.declared.cutter.Place.TheVariants.{Beginning}
-use Rattle.turtle_tokens.specs.Items.{Items}
-use Rattle.turtle_tokens.specs.Texts.{AreItems}
+use Rattle.token_scanner.specs.declared.place.Place.TheVariants.{Beginning}
+use Rattle.turtle_tokens.specs.Scanning.{Items}
+use Rattle.turtle_tokens.specs.Scanning.{AreItems}
 use Rattle.turtle_lexer.specs.Streams.{Ahead, stream}
 use Rattle.turtle_lexer.specs.Streams.Ahead.{NotUtf8, Tokens}
 

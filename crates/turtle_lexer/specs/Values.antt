@@ -1,36 +1,11 @@
 -- What the characters of a token stand for.
-use Rattle.std.specs.Prelude.{ℕ, List, [], ◌∷◌, ◌+◌, ◌*◌, ◌-◌, ◌==◌, nat_le, nat_lt, cond, is_some, take, drop, length}
-use Rattle.std.specs.Char.{digit_value}
-use lib.Utf8.{scalar, encodes}
+use Rattle.std.specs.Prelude.{ℕ, List, [], ◌∷◌, ◌==◌, cond, is_some, drop}
+use lib.Utf8.{encodes}
 use Rattle.turtle_tokens.specs.declared.kinds.TokenKind.{TokenKind}
 use Rattle.turtle_tokens.specs.declared.kinds.TokenKind.TheVariants.{IriRef, PnameNs, PnameLn, Blank, AtWord, Integer, Decimal, Double, Str, A, True, False, Prefix, Base}
-use Rattle.turtle_tokens.specs.Fronts.{three_marks}
-use Rattle.turtle_tokens.specs.Widths.{width}
-use Rattle.turtle_lexer.specs.declared.values.Pending.{Pending}
-use Rattle.turtle_lexer.specs.declared.values.Pending.TheVariants.{Plain, Slash, Digits}
-
--- what the letter behind a backslash stands for
-abbrev pub letter_value : ℕ → ℕ
-letter_value c = cond (c == 0x74) 9 (cond (c == 0x62) 8 (cond (c == 0x6E) 10 (cond (c == 0x72) 13 (cond (c == 0x66) 12 c))))
-
--- a digit more; the numbers of spelled escapes stay small
-abbrev pub more_digits : ℕ → ℕ → ℕ
-more_digits a c = cond (nat_lt a 0x1_0000_0000) (a * 16 + digit_value c) 0
-
--- the character of a number, which is one in each spelled escape
-abbrev pub char_of : ℕ → ℕ
-char_of n = cond (scalar n) n 0xFFFD
-
--- The characters that a text stands for, behind what is read of an escape.
-abbrev pub value_from : Pending → List ℕ → List ℕ
-value_from p [] = []
-value_from Plain (c ∷ s) = cond (c == 0x5C) (value_from Slash s) (c ∷ value_from Plain s)
-value_from Slash (c ∷ s) = cond (c == 0x75) (value_from (Digits 4 0) s) (cond (c == 0x55) (value_from (Digits 8 0) s) ((letter_value c) ∷ value_from Plain s))
-value_from (Digits n a) (c ∷ s) = cond (nat_le n 1) ((char_of (more_digits a c)) ∷ value_from Plain s) (value_from (Digits (n - 1) (more_digits a c)) s)
-
--- but for the first n and the last n
-abbrev pub inside : ℕ → List ℕ → List ℕ
-inside n chars = drop n (take (length chars - n) chars)
+use Rattle.turtle_tokens.specs.Marks.{three_marks}
+use Rattle.token_scanner.specs.Widths.{width}
+use Rattle.rdf_reading.specs.Values.{unescaped, inside}
 
 -- how many quote marks begin a string
 abbrev pub marks : List ℕ → ℕ
@@ -53,8 +28,8 @@ name (c ∷ s) = cond (c == 0x3A) (local_name s) (c ∷ name s)
 
 -- the characters of a token's value
 abbrev pub value : TokenKind → List ℕ → List ℕ
-value IriRef chars = value_from Plain (inside 1 chars)
-value Str chars = value_from Plain (inside (marks chars) chars)
+value IriRef chars = unescaped (inside 1 chars)
+value Str chars = unescaped (inside (marks chars) chars)
 value PnameNs chars = name chars
 value PnameLn chars = name chars
 value Blank chars = drop 2 chars

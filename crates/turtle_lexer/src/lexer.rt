@@ -1,8 +1,8 @@
 // The lexer of bytes that come in pieces.
 ghost use Rattle.std.specs.Prelude.{◌≡◌, ◌+◌, ◌<◌, ◌≤◌, ◌^◌, ◌++◌, ◌∷◌, [], ℕ, List, OnOk, OnErr, IsErr, IfOk, take, true, false, None, Some, length};
-ghost use Rattle.turtle_tokens.specs.Widths.{width};
-ghost use Rattle.turtle_tokens.specs.Items.{items_of, front_items};
-ghost use Rattle.turtle_tokens.specs.declared.front.Front.TheVariants.{Token as FrontToken};
+ghost use Rattle.token_scanner.specs.Widths.{width};
+ghost use Rattle.turtle_tokens.specs.Scanning.{items_of, front_items};
+ghost use Rattle.token_scanner.specs.declared.front.Front.TheVariants.{Token as FrontToken};
 ghost use Rattle.turtle_lexer.specs.Streams.{tokens};
 ghost use Rattle.turtle_lexer.specs.Lexing as spec;
 
@@ -13,7 +13,8 @@ use rdf_chars::Utf8Steps;
 use rdf_terms::{Code, Refusal};
 use std::alloc::{AllocError, Global};
 use std::marker::Model;
-use turtle_tokens::{Cutter, Front, TokenKind};
+use token_scanner::{Cutter, Front};
+use turtle_tokens::{TokenKind, Turtle};
 
 /// Reads the tokens of Turtle from bytes that come in pieces, fewer than 2^32 in all.
 ///
@@ -23,7 +24,7 @@ pub struct Lexer {
     alloc: Global,
     steps: Utf8Steps,
     bad: Option<u64>,
-    cutter: Cutter,
+    cutter: Cutter<Turtle>,
     begun: u8,
     value: String,
     finished: bool,

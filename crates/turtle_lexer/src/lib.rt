@@ -3,8 +3,6 @@
 
 pub mod laws;
 mod lexer;
-#[cfg(test)]
-mod tests;
 mod token;
 mod values;
 

@@ -7,8 +7,8 @@ use Rattle.rdf_terms.specs.declared.terms.Code.{Code}
 use Rattle.rdf_terms.specs.declared.terms.Code.TheVariants.{U1, G1, G2, G3, L2, L3}
 use Rattle.rdf_terms.specs.declared.terms.Refusal.{Refusal}
 use Rattle.rdf_terms.specs.declared.triples.Records.{Records}
-use Rattle.ntriples_reader.specs.Answers.{Answer, unless, by_code}
-use Rattle.ntriples_reader.specs.Answers.Answer.{Refuse, Read}
+use Rattle.rdf_reading.specs.Answers.{Answer, unless, by_code}
+use Rattle.rdf_reading.specs.Answers.Answer.{Refuse, Read}
 use Rattle.turtle_tokens.specs.declared.kinds.TokenKind.{TokenKind}
 use Rattle.turtle_grammar.specs.declared.states.Frame.{Frame}
 use Rattle.turtle_grammar.specs.declared.states.State.{State}

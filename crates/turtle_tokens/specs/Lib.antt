@@ -2,8 +2,10 @@ pub mod Terminals
 pub mod Ways
 pub mod Steps
 pub mod Machine
-pub mod Widths
-pub mod Fronts
-pub mod Items
-pub mod Cutting
-pub mod Texts
+pub mod Marks
+pub mod Scanning
+pub mod Lists
+pub mod Sampled
+pub mod Tested
+pub mod Ruling
+pub mod ScannerLaws

@@ -2,9 +2,9 @@
 ghost use Rattle.std.specs.Prelude.{ℕ, List, ◌≡◌};
 ghost use Rattle.text_patterns.specs.Machines.{IsMachine};
 ghost use Rattle.turtle_tokens.specs.Machine.{turtle};
-ghost use Rattle.turtle_tokens.specs.Items.{Items, items};
-ghost use Rattle.turtle_tokens.specs.Texts.{AreItems, AreChars};
-ghost use Rattle.turtle_tokens.specs.declared.cutter.Place.{Place};
+ghost use Rattle.token_scanner.specs.Texts.{AreChars};
+ghost use Rattle.token_scanner.specs.declared.place.Place.{Place};
+ghost use Rattle.turtle_tokens.specs.Scanning.{Items, items, AreItems};
 
 /// The table's steps are those of the terminals' spellings.
 pub fn table_is_a_machine()

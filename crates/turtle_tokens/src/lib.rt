@@ -1,13 +1,11 @@
-//! The tokens of Turtle: their terminals, the machine that reads them, and characters that are cut into tokens.
+//! The tokens of Turtle: their terminals, and the machine that reads them.
 #![tactic(auto)]
 
-mod cutter;
-mod front;
 mod kinds;
 pub mod laws;
 mod states;
+mod syntax;
 mod table;
 
-pub use cutter::{Cutter, Place, begin_three_marks};
-pub use front::Front;
 pub use kinds::TokenKind;
+pub use syntax::{Turtle, begin_three_marks};

@@ -1,7 +1,7 @@
 use Rattle.std.proofs.Common.{◌≡◌, ◌≤◌, ◌+◌, ◌++◌, drop, string_bytes}
 use Rattle.std.specs.Prelude.{cond}
 use lib.Utf8.{encodes}
-use Rattle.turtle_tokens.specs.Widths.{width}
+use Rattle.token_scanner.specs.Widths.{width}
 use Rattle.turtle_lexer.specs.Values.{name, local_name, before_colon}
 use Rattle.turtle_lexer.proofs.values.put_name.Given as goal
 

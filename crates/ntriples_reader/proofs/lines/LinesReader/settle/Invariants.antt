@@ -1,5 +1,5 @@
 use Rattle.std.proofs.Common.{◌≡◌, ◌+◌, ℕ, List, [], true, length}
-use Rattle.ntriples_tokens.specs.Widths.{width}
+use Rattle.token_scanner.specs.Widths.{width}
 use Rattle.ntriples_reader.specs.Answers as spec
 use Rattle.ntriples_reader.proofs.lines.LinesReader.settle.Given as goal
 

@@ -1,9 +1,10 @@
 use Rattle.std.proofs.Common.{ℕ, List, ◌++◌, take, ap, sym, ◌∙◌, ◌≡◌}
 use Rattle.std.specs.Prelude.{Some, None}
-use Rattle.ntriples_tokens.specs.Items.{items_of, behind}
+use Rattle.ntriples_tokens.specs.Scanning.{items_of, behind}
 use Rattle.ntriples_reader.specs.Lines.{code_at, line_after}
-use Rattle.ntriples_reader.specs.Answers.{answer_of, unless, judge, by_code, held_behind, token_items}
-use Rattle.ntriples_reader.specs.Answers.Answer.{Refuse}
+use Rattle.ntriples_reader.specs.Answers.{answer_of, judge, held_behind, token_items}
+use Rattle.rdf_reading.specs.Answers.{unless, by_code}
+use Rattle.rdf_reading.specs.Answers.Answer.{Refuse}
 use Rattle.ntriples_reader.proofs.Judging.{token_judged, on_ok_map}
 use Rattle.ntriples_reader.proofs.lines.LinesReader.token.Goals as goal
 

@@ -1,5 +1,5 @@
 use Rattle.std.proofs.Common.{arith}
-use Rattle.turtle_tokens.proofs.Widths.{length_width}
+use Rattle.token_scanner.proofs.Widths.{length_width}
 use Rattle.turtle_lexer.proofs.lexer.Lexer.kept.Goals as goal
 
 pub width-requires : goal.width-requires

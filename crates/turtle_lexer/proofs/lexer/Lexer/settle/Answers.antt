@@ -5,8 +5,8 @@ use Rattle.rdf_terms.specs.declared.terms.Refusal.{Refusal}
 use Rattle.rdf_chars.specs.Steps.{ended}
 use Rattle.text_patterns.specs.Machines.{IsOpen}
 use Rattle.turtle_tokens.specs.Machine.{turtle}
-use Rattle.turtle_tokens.specs.Widths.{width}
-use Rattle.turtle_tokens.specs.Items.{front_items, items_of}
+use Rattle.token_scanner.specs.Widths.{width}
+use Rattle.turtle_tokens.specs.Scanning.{front_items, items_of}
 use Rattle.turtle_lexer.specs.Streams.{stream}
 use Rattle.turtle_lexer.specs.Streams.Stream.{NoToken, Overlong}
 use Rattle.turtle_lexer.specs.Lexing.{Lexing, Knows}

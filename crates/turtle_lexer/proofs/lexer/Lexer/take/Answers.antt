@@ -1,7 +1,7 @@
 use Rattle.std.proofs.Common.{refl, ap, sym, ◌∙◌, ◌∷◌, ◌+◌, ◌≡◌, ◌++◌, [], arith, subst}
 use Rattle.std.specs.Prelude.{Some, None, Ok, ◌<◌, ◌^◌}
 use Rattle.turtle_lexer.specs.Lexing.{ahead, IsFed, HasRoom, stopped}
-use Rattle.turtle_tokens.specs.Items.{items_of}
+use Rattle.turtle_tokens.specs.Scanning.{items_of}
 use Rattle.turtle_lexer.specs.Streams.{by_chars, stream}
 use Rattle.rdf_chars.specs.Decoding.{decoded}
 use Rattle.turtle_lexer.proofs.Feeding.{bad_ahead, fed_some, fed_none, knows_ok, knows_err, room_pushed, room_same, emptied_none, on_ok_by, on_err_by, begun_whole, begun_inside}

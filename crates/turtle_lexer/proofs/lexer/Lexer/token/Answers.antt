@@ -1,7 +1,7 @@
 use Rattle.std.proofs.Common.{ap, sym, ◌∙◌, ◌≡◌, ◌+◌, ◌≤◌, ◌++◌, take, length, arith, subst}
-use Rattle.turtle_tokens.specs.declared.front.Front.TheVariants.{Token as FrontToken}
-use Rattle.turtle_tokens.specs.Widths.{width}
-use Rattle.turtle_tokens.specs.Items.{front_items, items_of, behind}
+use Rattle.token_scanner.specs.declared.front.Front.TheVariants.{Token as FrontToken}
+use Rattle.token_scanner.specs.Widths.{width}
+use Rattle.turtle_tokens.specs.Scanning.{front_items, items_of, behind}
 use Rattle.turtle_lexer.specs.Values.{value_text, prefix_width}
 use Rattle.turtle_lexer.specs.Streams.{stream}
 use Rattle.turtle_lexer.specs.Streams.Stream.{Given}

@@ -1,5 +1,0 @@
-use Rattle.ntriples_writer.proofs.Whole.{line_utf8}
-use Rattle.ntriples_writer.proofs.lines.line_of.Goals as goal
-
-pub returns-clause-utf8 : goal.returns-clause-utf8
-returns-clause-utf8 c = line_utf8 c.args.names.now c.args.t c.in_ok-append_term.ensures.utf8 c.in_ok-append_term-2.ensures.utf8 c.in_ok-append_term-3.ensures.utf8

@@ -1,0 +1,9 @@
+pub mod Widths
+pub mod Lists
+pub mod Right
+pub mod Keeping
+pub mod Readings
+pub mod Runs
+pub mod Leading
+pub mod Saying
+pub mod Once
