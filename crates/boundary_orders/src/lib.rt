@@ -10,8 +10,6 @@ mod listing;
 mod orders;
 mod standings;
 mod statements;
-#[cfg(test)]
-mod tests;
 
 pub use dates::{date_in, date_number, find_dates};
 pub use dossier::{Dossier, ExtentRow};

@@ -10,8 +10,6 @@ ghost use Rattle.crm_classes.specs.Index.{candidate_of, lettered, digit};
 use std::marker::Model;
 
 mod table;
-#[cfg(test)]
-mod tests;
 
 /// How many classes the profile has.
 const COUNT: u8 = 71;

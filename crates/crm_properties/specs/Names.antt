@@ -25,9 +25,6 @@ archaeo_space = codes "http://www.cidoc-crm.org/cidoc-crm/CRMarchaeo/"
 unfoldable pub extension_space : List ℕ
 extension_space = codes "http://www.cidoc-crm.org/extensions/crmarchaeo/"
 
-unfoldable pub type_iri : List ℕ
-type_iri = codes "http://www.w3.org/1999/02/22-rdf-syntax-ns#type"
-
 unfoldable pub relation_iri : List ℕ
 relation_iri = codes "urn:crmtime:Relation"
 

@@ -4,17 +4,17 @@
 #![tactic(auto)]
 
 ghost use Rattle.std.specs.Prelude.{◌≡◌, ◌<◌, ◌&&◌, ◌==◌, bytes_eq, option_map};
-ghost use Rattle.crm_properties.specs.Names.{row_at, name_of, same_space, is_text, prop_of_text, class_in, class_of_iri_text, type_iri, relation_iri};
+ghost use Rattle.crm_properties.specs.Names.{row_at, name_of, same_space, is_text, prop_of_text, class_in, class_of_iri_text, relation_iri};
+ghost use Rattle.rdf_vocabulary.specs.Iris.{rdf_type};
 ghost use Rattle.crm_properties.specs.PropertyNumbers.{is_typed_relation};
 
 mod index;
 mod names;
 mod table;
-#[cfg(test)]
-mod tests;
 
 use crate::names::name_of_iri;
 use crm_classes::{ClassId, class_of_bytes};
+use rdf_vocabulary::rdf_type;
 use std::marker::Model;
 
 /// How many properties the profile has.
@@ -144,11 +144,10 @@ pub fn class_of_iri(iri: &str) -> Option<ClassId>
 }
 
 /// Whether the IRI is `rdf:type`.
-#[tactic(auto, unfolding(crate::specs::Names::type_iri))]
 pub fn is_type(iri: &str) -> bool
-    ensures { result ≡ bytes_eq type_iri iri.now }
+    ensures { result ≡ bytes_eq rdf_type iri.now }
 {
-    "http://www.w3.org/1999/02/22-rdf-syntax-ns#type" == iri
+    rdf_type() == iri
 }
 
 /// Whether the IRI is the class of relations that are nodes, `urn:crmtime:Relation`.

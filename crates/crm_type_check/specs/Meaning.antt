@@ -5,7 +5,8 @@ use Rattle.rdf_terms.specs.declared.terms.Triple.{Triple}
 use Rattle.rdf_terms.specs.Naming.{NameLists}
 use Rattle.rdf_terms.specs.Fitting.{iri_of}
 use Rattle.crm_properties.specs.declared.Prop.{Prop}
-use Rattle.crm_properties.specs.Names.{prop_of_text, class_of_iri_text, type_iri, relation_iri}
+use Rattle.rdf_vocabulary.specs.Iris.{rdf_type}
+use Rattle.crm_properties.specs.Names.{prop_of_text, class_of_iri_text, relation_iri}
 
 -- what is there passes the test
 abbrev pub passes : {X : Type 0} → (X → Bool) → Option X → Bool
@@ -21,7 +22,7 @@ class_of names t = option_and_then class_of_iri_text (iri_of names t)
 
 -- the triple gives its subject a type
 abbrev pub is_type : NameLists → Triple → Bool
-is_type names t = passes (bytes_eq type_iri) (iri_of names t.p)
+is_type names t = passes (bytes_eq rdf_type) (iri_of names t.p)
 
 -- the triple makes its subject a relation
 abbrev pub makes_relation : NameLists → Triple → Bool

@@ -10,8 +10,6 @@ mod meaning;
 mod own;
 mod pushing;
 mod relation;
-#[cfg(test)]
-mod tests;
 
 use crate::own::own_faults;
 use crate::pushing::push_faults;

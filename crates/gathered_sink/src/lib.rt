@@ -3,7 +3,5 @@
 
 mod gathered;
 mod pieces;
-#[cfg(test)]
-mod tests;
 
 pub use gathered::Gathered;

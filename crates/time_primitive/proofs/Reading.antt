@@ -1,5 +1,5 @@
 -- What the machine has read tells the form of a text, and how much of it begins some text of a form.
-use Rattle.std.proofs.Common.{ℕ, zero, suc, List, [], ◌∷◌, ◌++◌, ◌≡◌, ◌<◌, ◌≤◌, ◌+◌, ◌-◌, length, take, drop, get_or, refl, sym, ap, ap₂, ◌∙◌, arith, inl, inr, subst, append_assoc}
+use Rattle.std.proofs.Common.{ℕ, zero, suc, List, [], ◌∷◌, ◌++◌, ◌≡◌, ◌<◌, ◌≤◌, ◌+◌, ◌-◌, length, take, drop, get_or, refl, sym, ap, ap₂, ◌∙◌, arith, inl, inr, subst, append_assoc, append-nil}
 use Rattle.std.specs.Prelude.{Bool, true, false, not, ◌||◌, ◌⊎◌, Option, None, Some, Ok, Err}
 use Rattle.std.specs.List.{find, list_any}
 use Rattle.std.proofs.lemmas.Bool.{false≢true, true≢false, cases_Bool, cases_eq, or_left, or_right, cond-true, cond-false, both_ways}
@@ -215,19 +215,16 @@ refused_unwanted d text i q r l c f w n u =
     refused_at d text i q l f w (unwanted d text (i + 1) r (follows_step text i q r l c f n) u)
 
 -- at the end of the text
-pub append_nil : (s : List ℕ) → s ++ [] ≡ s
-append_nil [] = refl
-append_nil (c ∷ s) = ap (λ x. c ∷ x) (append_nil s)
 
 pub accepted : (text : List ℕ) (q : State) → Follows text (length text) q → (k : Form) → has_form text k ≡ true → accepts q ≡ Some k
 unfolding Follows
 accepted text q f k h = reads_whole_alone (machine table) is_machine text q f.0 f.1 k
-    (subst (λ x. Matches (spelling k) x) (append_nil text) (after-gives (spelling k) text [] (nullable-gives (after (spelling k) text) h)))
+    (subst (λ x. Matches (spelling k) x) (append-nil text) (after-gives (spelling k) text [] (nullable-gives (after (spelling k) text) h)))
 
 has_it : (text : List ℕ) (q : State) → Follows text (length text) q → (k : Form) → accepts q ≡ Some k → has_form text k ≡ true
 unfolding Follows
 has_it text q f k e = nullable-takes (after (spelling k) text) (after-takes (spelling k) text []
-    (subst (λ x. Matches (spelling k) x) (sym (append_nil text)) (reads_whole (machine table) is_machine text q f.0 f.1 k e)))
+    (subst (λ x. Matches (spelling k) x) (sym (append-nil text)) (reads_whole (machine table) is_machine text q f.0 f.1 k e)))
 
 pub read_whole : (d : Datatype) (text : List ℕ) (q : State) (k : Form) → Follows text (length text) q → accepts q ≡ Some k → is_taken d k ≡ true → form_in d text ≡ Ok k
 read_whole d text q k f e t =

@@ -1,5 +1,5 @@
 -- What the tests of texts mean by the patterns of their forms.
-use Rattle.std.proofs.Common.{ℕ, zero, suc, List, [], ◌++◌, ◌≡◌, ◌<◌, ◌≤◌, ◌+◌, length, take, drop, get_or, refl, sym, ap, ◌∙◌, arith, inl, inr, subst}
+use Rattle.std.proofs.Common.{ℕ, zero, suc, List, [], ◌++◌, ◌≡◌, ◌<◌, ◌≤◌, ◌+◌, length, take, drop, get_or, refl, sym, ap, ◌∙◌, arith, inl, inr, subst, append-nil}
 use Rattle.std.specs.Prelude.{Bool, true, false, not, ◌⊎◌, ◌||◌, Option, None, Some}
 use Rattle.std.specs.List.{list_any}
 use Rattle.std.proofs.lemmas.Bool.{false≢true, cases_Bool, cases_eq, or_cases, cond-true, cond-false, both_ways, not-true}
@@ -15,15 +15,15 @@ use Rattle.time_primitive.specs.declared.form.Form.TheVariants.{GYear, GYearMont
 use Rattle.time_primitive.specs.declared.form.Datatype.{Datatype}
 use Rattle.time_primitive.specs.declared.form.Datatype.TheVariants.{Typed, Text}
 use Rattle.time_primitive.specs.declared.machine.State.{State}
-use Rattle.time_primitive.proofs.Reading.{Follows, follows_start, follows_step, stuck, accepted, any_of, fertile, same_self, append_nil}
+use Rattle.time_primitive.proofs.Reading.{Follows, follows_start, follows_step, stuck, accepted, any_of, fertile, same_self}
 
 pub has_spelled : (form : Form) (text : List ℕ) → has_form text form ≡ true → Matches (spelling form) text
 has_spelled form text h =
-    subst (λ x. Matches (spelling form) x) (append_nil text) (after-gives (spelling form) text [] (nullable-gives (after (spelling form) text) h))
+    subst (λ x. Matches (spelling form) x) (append-nil text) (after-gives (spelling form) text [] (nullable-gives (after (spelling form) text) h))
 
 pub spelled_has : (form : Form) (text : List ℕ) → Matches (spelling form) text → has_form text form ≡ true
 spelled_has form text m =
-    nullable-takes (after (spelling form) text) (after-takes (spelling form) text [] (subst (λ x. Matches (spelling form) x) (sym (append_nil text)) m))
+    nullable-takes (after (spelling form) text) (after-takes (spelling form) text [] (subst (λ x. Matches (spelling form) x) (sym (append-nil text)) m))
 
 pub begins_all : (d : Datatype) (text : List ℕ) (form : Form) → is_taken d form ≡ true → Begins (spelling form) text → begins (forms_of d) text ≡ true
 begins_all d text form t b =

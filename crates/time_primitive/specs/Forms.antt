@@ -1,6 +1,7 @@
 -- The forms of dates, the datatypes that ask for them, and what a text is among them.
 use Rattle.std.specs.Prelude.{ℕ, zero, suc, Bool, cond, not, Option, Some, None, Result, Ok, Err, List, [], ◌∷◌, length, take, codes, bytes_eq}
 use Rattle.std.specs.List.{find, list_any}
+use Rattle.rdf_vocabulary.specs.Iris.{xsd_g_year, xsd_g_year_month, xsd_date, xsd_date_time, xsd_string}
 use Rattle.text_patterns.specs.Patterns.{Pattern, ◌then◌, ◌or◌, char, optional, some_of}
 use Rattle.text_patterns.specs.Patterns.Pattern.{One, Many}
 use Rattle.text_patterns.specs.Derivatives.{nullable, after, is_barren}
@@ -49,29 +50,13 @@ spelling GYearMonth = year_month then optional zone
 spelling Date = year_month_day then optional zone
 spelling DateTime = year_month_day then char 84 then time then optional zone
 
--- the datatypes of XML Schema that a date may have
-unfoldable pub g_year_iri : List ℕ
-g_year_iri = codes "http://www.w3.org/2001/XMLSchema#gYear"
-
-unfoldable pub g_year_month_iri : List ℕ
-g_year_month_iri = codes "http://www.w3.org/2001/XMLSchema#gYearMonth"
-
-unfoldable pub date_iri : List ℕ
-date_iri = codes "http://www.w3.org/2001/XMLSchema#date"
-
-unfoldable pub date_time_iri : List ℕ
-date_time_iri = codes "http://www.w3.org/2001/XMLSchema#dateTime"
-
-unfoldable pub string_iri : List ℕ
-string_iri = codes "http://www.w3.org/2001/XMLSchema#string"
-
 abbrev pub datatype_in : List ℕ → Option Datatype
 datatype_in iri =
-    cond (bytes_eq g_year_iri iri) (Some (Typed GYear)) (
-    cond (bytes_eq g_year_month_iri iri) (Some (Typed GYearMonth)) (
-    cond (bytes_eq date_iri iri) (Some (Typed Date)) (
-    cond (bytes_eq date_time_iri iri) (Some (Typed DateTime)) (
-    cond (bytes_eq string_iri iri) (Some Text) None))))
+    cond (bytes_eq xsd_g_year iri) (Some (Typed GYear)) (
+    cond (bytes_eq xsd_g_year_month iri) (Some (Typed GYearMonth)) (
+    cond (bytes_eq xsd_date iri) (Some (Typed Date)) (
+    cond (bytes_eq xsd_date_time iri) (Some (Typed DateTime)) (
+    cond (bytes_eq xsd_string iri) (Some Text) None))))
 
 -- a datatype of dates has its one form, and a string all four
 abbrev pub forms_of : Datatype → List Form

@@ -1,6 +1,8 @@
 // The forms of dates, and the datatypes that ask for them.
 ghost use Rattle.std.specs.Prelude.{◌≡◌, ◌<◌, length};
-ghost use Rattle.time_primitive.specs.Forms.{datatype_in, g_year_iri, g_year_month_iri, date_iri, date_time_iri, string_iri};
+ghost use Rattle.time_primitive.specs.Forms.{datatype_in};
+
+use rdf_vocabulary::{xsd_date, xsd_date_time, xsd_g_year, xsd_g_year_month, xsd_string};
 
 /// A form of a date.
 #[derive(Clone, Copy, PartialEq, Eq, Debug)]
@@ -19,19 +21,18 @@ pub enum Datatype {
 }
 
 /// The datatype of dates with this IRI.
-#[tactic(auto, unfolding(crate::specs::Forms::g_year_iri, crate::specs::Forms::g_year_month_iri, crate::specs::Forms::date_iri, crate::specs::Forms::date_time_iri, crate::specs::Forms::string_iri))]
 pub fn datatype_of(iri: &str) -> Option<Datatype>
     ensures { result ≡ datatype_in iri.now }
 {
-    if "http://www.w3.org/2001/XMLSchema#gYear" == iri {
+    if xsd_g_year() == iri {
         Some(Datatype::Typed(Form::GYear))
-    } else if "http://www.w3.org/2001/XMLSchema#gYearMonth" == iri {
+    } else if xsd_g_year_month() == iri {
         Some(Datatype::Typed(Form::GYearMonth))
-    } else if "http://www.w3.org/2001/XMLSchema#date" == iri {
+    } else if xsd_date() == iri {
         Some(Datatype::Typed(Form::Date))
-    } else if "http://www.w3.org/2001/XMLSchema#dateTime" == iri {
+    } else if xsd_date_time() == iri {
         Some(Datatype::Typed(Form::DateTime))
-    } else if "http://www.w3.org/2001/XMLSchema#string" == iri {
+    } else if xsd_string() == iri {
         Some(Datatype::Text)
     } else {
         None

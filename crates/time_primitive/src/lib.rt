@@ -12,8 +12,6 @@ mod form;
 pub mod laws;
 mod machine;
 mod parts;
-#[cfg(test)]
-mod tests;
 
 use crate::dates::{find_missing, instant, is_whole_offset};
 use crate::form::datatype_of;

@@ -8,8 +8,6 @@ mod pairs;
 mod pool;
 mod store;
 mod table;
-#[cfg(test)]
-mod tests;
 mod walk;
 
 pub use pairs::Pairs;
