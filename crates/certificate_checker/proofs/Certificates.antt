@@ -1,17 +1,18 @@
 -- A certificate is a first line and a body of its kind.
-use Rattle.std.proofs.Common.{arith, ◌≡◌, inl, inr, ℕ, None, List, ◌++◌, get_or, refl, sym, ap, subst, ◌∙◌, append_assoc}
+use Rattle.std.proofs.Common.{arith, ◌≡◌, inl, inr, ℕ, Some, None, List, ◌++◌, get_or, refl, sym, ap, subst, ◌∙◌, append_assoc}
 use Rattle.std.specs.Prelude.{codes}
 use Rattle.std.proofs.lemmas.List.{append_cancel_left}
-use Rattle.certificate_reader.specs.declared.refusals.CertRefusal.{CertRefusal}
+use Rattle.certificate_trees.specs.declared.refusals.CertRefusal.{CertRefusal}
 use Rattle.certificate_reader.specs.declared.heads.Kind.{Kind}
 use Rattle.certificate_reader.specs.declared.heads.Kind.TheVariants.{Orders as PlainOrders, SharedOrders, Classes, Matrix}
-use Rattle.certificate_reader.specs.Reads.{IsRead}
+use Rattle.certificate_trees.specs.Reads.{IsRead}
 use Rattle.certificate_reader.specs.HeadTexts.{head_text}
-use Rattle.certificate_reader.specs.Beginnings.{Begins, IsRefused, IsShallow, count}
+use Rattle.certificate_trees.specs.Beginnings.{Begins, IsRefused, IsShallow, count}
 use Rattle.certificate_reader.specs.LineGrammar.{HeadForm}
 use Rattle.certificate_checker.specs.Texts.{Body, LineOf, CertificateForm, IsRefusedAs, IsAccepted}
-use Rattle.certificate_reader.proofs.Shallow.{IsFlat, flat_word, flat_refused, few_shallow, shallow_on}
-use Rattle.certificate_checker.proofs.Stops.{Leads, refused_lead, refused_behind, accepted_behind, end_body, any_depth}
+use Rattle.certificate_trees.proofs.Shallow.{IsFlat, flat_word, flat_refused, few_shallow, shallow_on}
+use Rattle.certificate_checker.proofs.Stops.{Leads, refused_lead, refused_behind, accepted_behind, end_body}
+use Rattle.certificate_trees.proofs.Chains.{any_depth}
 
 differ_at : (n : ℕ) (x y : ℕ) (s t : List ℕ) → s ≡ t → get_or s n 0 ≡ x → get_or t n 0 ≡ y → (x ≡ y → ⊥) → ⊥
 differ_at n x y s t e f g other = other (sym f ∙ ap (λ z. get_or z n 0) e ∙ g)
@@ -79,7 +80,7 @@ head_flat p (inr (inr (inr t))) = flat_word (codes "crmtime 1 orders\n") refl p 
 
 pub head_refused : (depth : ℕ) (text : List ℕ) (e : CertRefusal) → IsRefused HeadForm None text 0 e → IsRefusedAs CertificateForm depth text 0 e
 head_refused depth text e h =
-    refused_lead HeadForm CertificateForm head_leads begins_head depth text 0 e (any_depth HeadForm depth text 0 e h) (flat_refused HeadForm head_flat depth text 0 e h)
+    refused_lead HeadForm CertificateForm head_leads begins_head depth text 0 e (any_depth HeadForm (Some depth) text 0 e h) (flat_refused HeadForm head_flat depth text 0 e h)
 
 head_joined : (depth : ℕ) (text : List ℕ) (to : ℕ) (k : Kind) → IsRead text 0 to (head_text k) → (b : ℕ) → IsShallow depth text to b → IsShallow depth text 0 b
 head_joined depth text to k read b h =

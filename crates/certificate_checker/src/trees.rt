@@ -1,7 +1,7 @@
 // What trees conclude, and the places of what is wrong with them.
 ghost use Rattle.std.specs.Prelude.{◌≡◌, ◌<◌, ◌≤◌, ◌^◌, None, IfOk, IfErr, OnOk, length, ℕ};
 ghost use Rattle.proof_core.specs.Proofs.{Concludes, node_count};
-ghost use Rattle.certificate_reader.specs.declared.refusals.CertRefusal.TheVariants.{K1};
+ghost use Rattle.certificate_trees.specs.declared.refusals.CertRefusal.TheVariants.{K1};
 ghost use Rattle.certificate_checker.specs.Texts.{IsOfLine};
 
 use crate::{CertRefusal, Verdict};

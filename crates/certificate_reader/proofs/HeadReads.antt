@@ -1,14 +1,14 @@
 -- How first lines are read and refused.
 use Rattle.std.proofs.Common.{arith, ◌≡◌, ◌+◌, ◌⊎◌, inl, inr, ℕ, Option, Some, None, List, ◌++◌, refl, sym, ap, subst, ◌∙◌}
 use Rattle.std.specs.Prelude.{slice_get, codes}
-use Rattle.certificate_reader.specs.declared.refusals.CertRefusal.{CertRefusal}
-use Rattle.certificate_reader.specs.Reads.{IsRead}
-use Rattle.certificate_reader.specs.Beginnings.{Then, Word, Either, Begins, IsRefused}
+use Rattle.certificate_trees.specs.declared.refusals.CertRefusal.{CertRefusal}
+use Rattle.certificate_trees.specs.Reads.{IsRead}
+use Rattle.certificate_trees.specs.Beginnings.{Then, Word, Either, Begins, IsRefused}
 use Rattle.certificate_reader.specs.LineGrammar.{HeadForm}
-use Rattle.certificate_reader.proofs.Cuts.{Led}
-use Rattle.certificate_reader.proofs.Chains.{first_refused}
-use Rattle.certificate_reader.proofs.Choices.{Leaves, first_chosen, word_chosen, leaves_at}
-use Rattle.certificate_reader.proofs.TreePieces.{ends}
+use Rattle.certificate_trees.proofs.Cuts.{Led}
+use Rattle.certificate_trees.proofs.Chains.{first_refused}
+use Rattle.certificate_trees.proofs.Choices.{Leaves, first_chosen, word_chosen, leaves_at}
+use Rattle.certificate_trees.proofs.TreePieces.{ends}
 
 -- what may stand behind a word in a form
 abbrev Behind : (List ℕ → Type 0) → List ℕ → List ℕ → Type 0

@@ -2,20 +2,19 @@
 use Rattle.std.proofs.Common.{arith, zero, suc, ◌≡◌, ◌≤◌, ◌+◌, ◌⊎◌, inl, inr, ℕ, Some, None, List, [], ◌∷◌, ◌++◌, length, drop, refl, sym, ap, subst, ◌∙◌, append_assoc, length-append}
 use Rattle.std.specs.Prelude.{slice_get, codes}
 use Rattle.std.proofs.lemmas.List.{append-nil, append_cancel_right}
-use Rattle.certificate_reader.specs.declared.refusals.CertRefusal.{CertRefusal}
-use Rattle.certificate_reader.specs.declared.refusals.CertRefusal.TheVariants.{K1}
-use Rattle.certificate_reader.specs.Reads.{IsRead}
-use Rattle.certificate_reader.specs.Beginnings.{Then, Word, Begins, IsWhole, IsStopped, IsRefused, HeadIn, NoByte, IsDigit}
+use Rattle.certificate_trees.specs.declared.refusals.CertRefusal.{CertRefusal}
+use Rattle.certificate_trees.specs.declared.refusals.CertRefusal.TheVariants.{K1}
+use Rattle.certificate_trees.specs.Reads.{IsRead}
+use Rattle.certificate_trees.specs.Beginnings.{Then, Word, Begins, IsWhole, IsStopped, IsRefused, HeadIn, NoByte, IsDigit}
 use Rattle.certificate_reader.specs.LineGrammar.{PositionForm, PositionsOf, Positions, PositionsLine}
-use Rattle.certificate_reader.proofs.Pieces.{none_read, then_read, byte_read}
-use Rattle.certificate_reader.proofs.Cuts.{Avoids, behind_avoids}
-use Rattle.certificate_reader.proofs.WordReads.{byte_whole}
-use Rattle.certificate_reader.proofs.TreeForms.{no_digit}
-use Rattle.certificate_reader.proofs.LineForms.{GoesOn, position_form, positions_form}
-use Rattle.certificate_reader.proofs.Choices.{Leaves, leaves_first}
-use Rattle.certificate_reader.proofs.SideReads.{other_byte}
-use Rattle.certificate_reader.proofs.Steps.{Joins, here, later, live_both, word_joins, space}
-use Rattle.certificate_reader.proofs.LineChoices.{Chosen, by_first}
+use Rattle.certificate_trees.proofs.Pieces.{none_read, then_read, byte_read}
+use Rattle.certificate_trees.proofs.Cuts.{Avoids, behind_avoids}
+use Rattle.certificate_trees.proofs.WordReads.{byte_whole}
+use Rattle.certificate_trees.proofs.TreeForms.{no_digit}
+use Rattle.certificate_reader.proofs.OrderForms.{GoesOn, position_form, positions_form}
+use Rattle.certificate_reader.proofs.LineChoices.{Chosen, by_first, other_byte}
+use Rattle.certificate_trees.proofs.Choices.{Leaves, leaves_first}
+use Rattle.certificate_trees.proofs.Steps.{Joins, here, later, live_both, word_joins, space}
 
 abbrev MoreLine : List ℕ → Type 0
 MoreLine = Then (Word (32 ∷ [])) (Then PositionForm PositionsLine)

@@ -3,9 +3,9 @@ use Rattle.std.proofs.Common.{◌≡◌, ◌+◌, ℕ, Some, List, [], ◌∷◌
 use Rattle.std.specs.Prelude.{slice_get}
 use Rattle.std.proofs.lemmas.List.{append-nil}
 use Rattle.order_laws.specs.declared.Position.{Position}
-use Rattle.certificate_reader.specs.Reads.{IsRead}
+use Rattle.certificate_trees.specs.Reads.{IsRead}
 use Rattle.certificate_reader.specs.OrderTexts.{position_text, positions_text}
-use Rattle.certificate_reader.proofs.Pieces.{then_read, byte_read}
+use Rattle.certificate_trees.proofs.Pieces.{then_read, byte_read}
 
 positions_push : (ps : List Position) (p : Position) → positions_text (ps ++ p ∷ []) ≡ positions_text ps ++ (32 ∷ position_text p)
 positions_push [] p = ap (λ z. 32 ∷ z) (append-nil (position_text p))

@@ -1,18 +1,15 @@
 -- Sides are told apart by their two letters.
 use Rattle.std.proofs.Common.{arith, ◌≡◌, ◌+◌, ◌⊎◌, inl, inr, ℕ, Some, None, List, [], ◌∷◌, ◌++◌, drop, refl, sym, subst}
 use Rattle.std.specs.Prelude.{slice_get}
-use Rattle.certificate_reader.specs.declared.refusals.CertRefusal.{CertRefusal}
-use Rattle.certificate_reader.specs.Reads.{IsRead}
-use Rattle.certificate_reader.specs.Beginnings.{Then, Word, Either, IsWhole, IsRefused}
+use Rattle.certificate_trees.specs.declared.refusals.CertRefusal.{CertRefusal}
+use Rattle.certificate_trees.specs.Reads.{IsRead}
+use Rattle.certificate_trees.specs.Beginnings.{Then, Word, Either, IsWhole, IsRefused}
 use Rattle.certificate_reader.specs.LineGrammar.{SideForm}
-use Rattle.certificate_reader.proofs.Pieces.{byte_read, then_read, item_of_rest}
-use Rattle.certificate_reader.proofs.Chains.{first_refused}
-use Rattle.certificate_reader.proofs.WordReads.{word_is_whole}
-use Rattle.certificate_reader.proofs.Choices.{Leaves, first_chosen, second_whole, second_chosen, leaves_first, leaves_second}
-
--- another byte doesn't stand there
-pub other_byte : (text : List ℕ) (at c d : ℕ) → slice_get text at ≡ Some c → (c ≡ d → ⊥) → slice_get text at ≡ Some d → ⊥
-other_byte text at c d e other f = let same : c ≡ d = cc (e, f) in other same
+use Rattle.certificate_trees.proofs.Pieces.{byte_read, then_read, item_of_rest}
+use Rattle.certificate_trees.proofs.Chains.{first_refused}
+use Rattle.certificate_trees.proofs.WordReads.{word_is_whole}
+use Rattle.certificate_trees.proofs.Choices.{Leaves, first_chosen, second_whole, second_chosen, leaves_first, leaves_second}
+use Rattle.certificate_reader.proofs.LineChoices.{other_byte}
 
 pub two_read : (text : List ℕ) (at c d : ℕ) → slice_get text at ≡ Some c → slice_get text (at + 1) ≡ Some d → IsRead text at (at + 2) (c ∷ d ∷ [])
 two_read text at c d e f =

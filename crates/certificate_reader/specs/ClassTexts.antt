@@ -2,14 +2,9 @@
 use Rattle.std.specs.Prelude.{◌≡◌, ◌≢◌, ◌⊎◌, ◌+◌, ℕ, List, ◌++◌, codes}
 use Rattle.std.specs.Fmt.{decimal}
 use Rattle.crm_classes.specs.Classes.{code_text, e2, e52, e77}
-use Rattle.certificate_reader.specs.declared.leaves.ClassFact.{ClassFact}
 use Rattle.certificate_reader.specs.declared.class_lines.ClassLine.{ClassLine}
 use Rattle.proof_core.specs.Proofs.{node_count}
-use Rattle.certificate_reader.specs.TreeTexts.{tree_bytes}
-
--- two classes by their codes
-abbrev pub class_leaf_text : ClassFact → List ℕ
-class_leaf_text f = code_text f.low ++ (codes "." ++ code_text f.high)
+use Rattle.certificate_trees.specs.TreeTexts.{class_leaf_text, tree_bytes}
 
 abbrev pub triples_text : ℕ → ℕ → List ℕ
 triples_text first second = codes "t" ++ (decimal first ++ (codes " " ++ (codes "t" ++ decimal second)))

@@ -1,11 +1,7 @@
-pub mod TreeTexts
-pub mod Reads
 pub mod ClassTexts
 pub mod OrderTexts
 pub mod MatrixTexts
 pub mod HeadTexts
-pub mod Beginnings
-pub mod Grammar
-pub mod TreeGrammar
 pub mod LineGrammar
-pub mod Unknowns
+pub mod OrderParts
+pub mod MatrixParts

@@ -1,11 +1,11 @@
 -- The texts of the lines of a certificate of a matrix.
-use Rattle.std.specs.Prelude.{◌<◌, ℕ, List, [], ◌++◌, ◌+◌, length, codes}
+use Rattle.std.specs.Prelude.{◌<◌, ℕ, List, ◌++◌, codes}
 use Rattle.std.specs.Fmt.{decimal}
 use Rattle.certificate_reader.specs.declared.matrix_lines.Cover.{Cover as ExtentPair}
 use Rattle.certificate_reader.specs.declared.matrix_lines.MatrixLine.{MatrixLine}
 use Rattle.certificate_reader.specs.declared.matrix_lines.MatrixLine.TheVariants.{Cover, Walk, End}
 use Rattle.proof_core.specs.Proofs.{node_count}
-use Rattle.certificate_reader.specs.TreeTexts.{shared_leaf, cover_leaf, tree_bytes, node_places}
+use Rattle.certificate_trees.specs.TreeTexts.{shared_leaf, cover_leaf, tree_bytes}
 
 -- two extents
 abbrev pub extents_text : ExtentPair → List ℕ
@@ -16,12 +16,6 @@ abbrev pub matrix_line_text : MatrixLine → List ℕ
 matrix_line_text (Cover p x) = codes "cover " ++ (extents_text p ++ (codes " " ++ tree_bytes shared_leaf x))
 matrix_line_text (Walk p x) = codes "walk " ++ (extents_text p ++ (codes " " ++ tree_bytes cover_leaf x))
 matrix_line_text End = codes "end"
-
--- where the nodes of its tree begin, in post-order; the line begins at a place
-abbrev pub matrix_line_places : MatrixLine → ℕ → List ℕ
-matrix_line_places (Cover p x) at = node_places shared_leaf x (at + length (extents_text p) + 7)
-matrix_line_places (Walk p x) at = node_places cover_leaf x (at + length (extents_text p) + 6)
-matrix_line_places End at = []
 
 -- how many nodes its tree has
 abbrev pub matrix_line_nodes : MatrixLine → ℕ

@@ -1,5 +1,5 @@
 -- The texts of the lines of a certificate of orders.
-use Rattle.std.specs.Prelude.{ℕ, List, [], ◌∷◌, ◌++◌, ◌+◌, length, codes}
+use Rattle.std.specs.Prelude.{ℕ, List, [], ◌∷◌, ◌++◌, codes}
 use Rattle.std.specs.Fmt.{decimal, signed_decimal}
 use Rattle.order_laws.specs.declared.Position.{Position}
 use Rattle.certificate_reader.specs.declared.order_lines.Side.{Side}
@@ -10,7 +10,7 @@ use Rattle.certificate_reader.specs.declared.order_lines.Claim.TheVariants.{Befo
 use Rattle.certificate_reader.specs.declared.order_lines.OrderLine.{OrderLine}
 use Rattle.certificate_reader.specs.declared.order_lines.OrderLine.TheVariants.{Place, Let, Pair, Cycle, End}
 use Rattle.proof_core.specs.Proofs.{node_count}
-use Rattle.certificate_reader.specs.TreeTexts.{shared_leaf, tree_bytes, node_places}
+use Rattle.certificate_trees.specs.TreeTexts.{shared_leaf, tree_bytes}
 
 abbrev pub position_text : Position → List ℕ
 position_text p = signed_decimal p.instant ++ (codes "/" ++ decimal p.rank)
@@ -41,20 +41,6 @@ order_line_text (Let x) = codes "let " ++ tree_bytes shared_leaf x
 order_line_text (Pair q c) = codes "pair " ++ (question_text q ++ (codes " " ++ claim_text c))
 order_line_text (Cycle x) = codes "cycle " ++ tree_bytes shared_leaf x
 order_line_text End = codes "end"
-
--- where the nodes of the tree of a claim begin, in post-order; the claim begins at a place
-abbrev pub claim_places : Claim → ℕ → List ℕ
-claim_places (Before x) at = node_places shared_leaf x (at + 3)
-claim_places (AtOrBefore x p) at = node_places shared_leaf x (at + 3)
-claim_places (Open p) at = []
-
--- the same of a line
-abbrev pub order_line_places : OrderLine → ℕ → List ℕ
-order_line_places (Place ps) at = []
-order_line_places (Let x) at = node_places shared_leaf x (at + 4)
-order_line_places (Pair q c) at = claim_places c (at + length (question_text q) + 6)
-order_line_places (Cycle x) at = node_places shared_leaf x (at + 6)
-order_line_places End at = []
 
 -- how many nodes its tree has
 abbrev pub claim_nodes : Claim → ℕ

@@ -1,16 +1,12 @@
 // The lines of a certificate of classes.
 ghost use Rattle.std.specs.Prelude.{◌≡◌, ◌<◌, ◌≤◌, ◌+◌, ◌++◌, ◌∷◌, ◌↔◌, [], None, Some, IfOk, length, true, IfErr};
-ghost use Rattle.certificate_reader.specs.Reads.{IsRead};
-ghost use Rattle.certificate_reader.specs.Beginnings.{IsShallow, IsShallowTill, IsWhole, IsRefused};
+ghost use Rattle.certificate_trees.specs.Reads.{IsRead};
+ghost use Rattle.certificate_trees.specs.Parts.{IsPartRefused, IsStanding};
 ghost use Rattle.certificate_reader.specs.LineGrammar.{Triples, CodePair, ClassLineForm};
 ghost use Rattle.certificate_reader.specs.ClassTexts.{triples_text, classes_text, class_line_text, class_line_nodes, IsHead, IsFamilyPair};
 
-use crate::leaves::read_code;
-use crate::trees::DEPTH;
-use crate::words::read_number;
-use crate::{
-    CertRefusal, ClassFact, ClassLeaves, Found, Join, Notes, Weaken, read_tree, read_word,
-};
+use crate::{CertRefusal, ClassFact, Found, Join, Notes, Weaken, read_word};
+use certificate_trees::{ClassLeaves, DEPTH, read_code, read_number, read_tree};
 use crm_classes::ClassId;
 use proof_core::Proof;
 use std::alloc::Global;
@@ -52,8 +48,8 @@ struct TriplePair {
 fn read_triples(text: &[u8], at: usize) -> Result<Found<TriplePair>, CertRefusal>
     requires { at ≤ length text.now }
     ensures read { IfOk result (λ f. IsRead text.now at f.to (triples_text f.value.first f.value.second)) }
-    ensures whole { IfOk result (λ f. IsWhole Triples text.now at f.to) }
-    ensures refused { IfErr result (λ e. IsRefused Triples None text.now at e) }
+    ensures stands { IfOk result (λ f. IsStanding Triples 64 text.now at f.to) }
+    ensures refused { IfErr result (λ e. IsPartRefused Triples 64 text.now at e) }
 {
     let begun = read_word(text, at, b"t")?;
     let first = read_number(text, begun)?;
@@ -110,8 +106,8 @@ fn read_classes(text: &[u8], at: usize) -> Result<Found<Classes>, CertRefusal>
     ensures moves { IfOk result (λ f. (at ≤ f.to) × (f.to ≤ length text.now)) }
     ensures pair { IfOk result (λ f. f.value.known ≡ true → IsFamilyPair f.value.first f.value.second) }
     ensures read { IfOk result (λ f. f.value.known ≡ true → IsRead text.now at f.to (classes_text f.value.first f.value.second)) }
-    ensures whole { IfOk result (λ f. IsWhole CodePair text.now at f.to) }
-    ensures refused { IfErr result (λ e. IsRefused CodePair None text.now at e) }
+    ensures stands { IfOk result (λ f. IsStanding CodePair 64 text.now at f.to) }
+    ensures refused { IfErr result (λ e. IsPartRefused CodePair 64 text.now at e) }
 {
     let first = read_code(text, at)?;
     let between = read_word(text, first.to, b" ")?;
@@ -159,10 +155,8 @@ pub fn read_class_line(
     ensures moves { IfOk result (λ f. (at + class_line_nodes f.value.line < f.to) × (f.to ≤ length text.now)) }
     ensures pair { IfOk result (λ f. f.value.known ≡ true → IsFamilyPair f.value.line.first_class f.value.line.second_class) }
     ensures read { notes.new.unknown ≡ None → IfOk result (λ f. f.value.known ≡ true → IsRead text.now at f.to (class_line_text f.value.line ++ 10 ∷ [])) }
-    ensures whole { IfOk result (λ f. IsWhole ClassLineForm text.now at f.to) }
-    ensures refused { IfErr result (λ e. IsRefused ClassLineForm (Some 64) text.now at e) }
-    ensures shallow { IfOk result (λ f. IsShallow 64 text.now at f.to) }
-    ensures shallow_till { IfErr result (λ e. IsShallowTill 64 text.now at e) }
+    ensures stands { IfOk result (λ f. IsStanding ClassLineForm 64 text.now at f.to) }
+    ensures refused { IfErr result (λ e. IsPartRefused ClassLineForm 64 text.now at e) }
 {
     let begun = read_word(text, at, b"class ")?;
     let triples = read_triples(text, begun)?;

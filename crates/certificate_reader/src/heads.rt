@@ -1,12 +1,12 @@
 // The first lines of certificates.
 ghost use Rattle.std.specs.Prelude.{◌≡◌, IfOk, IfErr, None};
-ghost use Rattle.certificate_reader.specs.Reads.{IsRead};
-ghost use Rattle.certificate_reader.specs.Beginnings.{IsWhole, IsRefused};
+ghost use Rattle.certificate_trees.specs.Reads.{IsRead};
+ghost use Rattle.certificate_trees.specs.Beginnings.{IsWhole, IsRefused};
 ghost use Rattle.certificate_reader.specs.LineGrammar.{HeadForm};
 ghost use Rattle.certificate_reader.specs.HeadTexts.{head_text};
 
-use crate::words::stands_at;
 use crate::{CertRefusal, Found, read_word};
+use certificate_trees::stands_at;
 
 /// What a certificate is about; one of orders may have `let` lines from version 2 on.
 #[derive(Clone, Copy, PartialEq, Eq, Debug)]

@@ -1,18 +1,13 @@
 // The lines of a certificate of a matrix.
 ghost use Rattle.std.specs.Prelude.{◌≡◌, ◌<◌, ◌≤◌, ◌+◌, ◌++◌, ◌∷◌, [], None, IfOk, length, IfErr, Some};
-ghost use Rattle.certificate_reader.specs.Reads.{IsRead};
-ghost use Rattle.certificate_reader.specs.Beginnings.{IsShallow, IsShallowTill, IsWhole, IsRefused};
+ghost use Rattle.certificate_trees.specs.Reads.{IsRead};
+ghost use Rattle.certificate_trees.specs.Parts.{IsPartRead, IsPartRefused, both_parts, word_part};
 ghost use Rattle.certificate_reader.specs.LineGrammar.{Extents, CoverForm, WalkForm, MatrixForm, MatrixLineForm};
-ghost use Rattle.certificate_reader.specs.Unknowns.{or_else, unknown_cell, unknown_pair};
-ghost use Rattle.certificate_reader.specs.MatrixTexts.{extents_text, matrix_line_text, matrix_line_places, matrix_line_nodes, HasExtents};
+ghost use Rattle.certificate_reader.specs.MatrixParts.{extents_part, matrix_line_part};
+ghost use Rattle.certificate_reader.specs.MatrixTexts.{matrix_line_text, matrix_line_nodes, HasExtents};
 
-use crate::leaves::read_name;
-use crate::trees::DEPTH;
-use crate::words::stands_at;
-use crate::{
-    CertRefusal, CoverLeaves, Found, Join, Notes, OrderLeaves, OrderProof, Weaken, read_tree,
-    read_word,
-};
+use crate::{CertRefusal, Found, Join, Notes, OrderLeaves, OrderProof, Weaken, read_word};
+use certificate_trees::{CoverLeaves, DEPTH, read_name, read_tree, stands_at};
 use proof_core::Proof;
 use std::alloc::Global;
 
@@ -42,13 +37,9 @@ fn read_extents(
     notes: &mut Notes,
 ) -> Result<Found<Cover>, CertRefusal>
     requires { at ≤ length text.now }
-    ensures sticky { notes.new.unknown ≡ None → notes.old.unknown ≡ None }
-    ensures places { notes.new.places ≡ notes.old.places }
     ensures known { notes.new.unknown ≡ None → IfOk result (λ f. (f.value.first < extents) × (f.value.second < extents)) }
-    ensures read { IfOk result (λ f. IsRead text.now at f.to (extents_text f.value)) }
-    ensures noted { IfOk result (λ f. notes.new.unknown ≡ or_else notes.old.unknown (unknown_pair extents f.value.first f.value.second at)) }
-    ensures whole { IfOk result (λ f. IsWhole Extents text.now at f.to) }
-    ensures refused { IfErr result (λ e. IsRefused Extents None text.now at e) }
+    ensures read { IfOk result (λ f. IsPartRead Extents 64 (extents_part extents f.value) text.now at f.to notes.old notes.new) }
+    ensures refused { IfErr result (λ e. IsPartRefused Extents 64 text.now at e) }
 {
     let first = read_name(text, at, b'x', extents, notes)?;
     let between = read_word(text, first.to, b" ")?;
@@ -70,15 +61,9 @@ fn read_cover(
     notes: &mut Notes,
 ) -> Result<Found<MatrixLine>, CertRefusal>
     requires { at ≤ length text.now }
-    ensures moves { IfOk result (λ f. (at + matrix_line_nodes f.value ≤ f.to) × (f.to ≤ length text.now)) }
     ensures known { notes.new.unknown ≡ None → IfOk result (λ f. HasExtents known.now.extents f.value) }
-    ensures read { IfOk result (λ f. IsRead text.now at f.to (matrix_line_text f.value)) }
-    ensures noted { IfOk result (λ f. notes.new.unknown ≡ or_else notes.old.unknown (unknown_cell known.now f.value at)) }
-    ensures places { IfOk result (λ f. notes.new.places.items ≡ notes.old.places.items ++ matrix_line_places f.value at) }
-    ensures whole { IfOk result (λ f. IsWhole CoverForm text.now at f.to) }
-    ensures refused { IfErr result (λ e. IsRefused CoverForm (Some 64) text.now at e) }
-    ensures shallow { IfOk result (λ f. IsShallow 64 text.now at f.to) }
-    ensures shallow_till { IfErr result (λ e. IsShallowTill 64 text.now at e) }
+    ensures read { IfOk result (λ f. IsPartRead CoverForm 64 (matrix_line_part known.now f.value) text.now at f.to notes.old notes.new) }
+    ensures refused { IfErr result (λ e. IsPartRefused CoverForm 64 text.now at e) }
 {
     let begun = read_word(text, at, b"cover ")?;
     let pair = read_extents(text, begun, known.extents, notes)?;
@@ -102,15 +87,9 @@ fn read_walk(
     notes: &mut Notes,
 ) -> Result<Found<MatrixLine>, CertRefusal>
     requires { at ≤ length text.now }
-    ensures moves { IfOk result (λ f. (at + matrix_line_nodes f.value ≤ f.to) × (f.to ≤ length text.now)) }
     ensures known { notes.new.unknown ≡ None → IfOk result (λ f. HasExtents known.now.extents f.value) }
-    ensures read { IfOk result (λ f. IsRead text.now at f.to (matrix_line_text f.value)) }
-    ensures noted { IfOk result (λ f. notes.new.unknown ≡ or_else notes.old.unknown (unknown_cell known.now f.value at)) }
-    ensures places { IfOk result (λ f. notes.new.places.items ≡ notes.old.places.items ++ matrix_line_places f.value at) }
-    ensures whole { IfOk result (λ f. IsWhole WalkForm text.now at f.to) }
-    ensures refused { IfErr result (λ e. IsRefused WalkForm (Some 64) text.now at e) }
-    ensures shallow { IfOk result (λ f. IsShallow 64 text.now at f.to) }
-    ensures shallow_till { IfErr result (λ e. IsShallowTill 64 text.now at e) }
+    ensures read { IfOk result (λ f. IsPartRead WalkForm 64 (matrix_line_part known.now f.value) text.now at f.to notes.old notes.new) }
+    ensures refused { IfErr result (λ e. IsPartRefused WalkForm 64 text.now at e) }
 {
     let begun = read_word(text, at, b"walk ")?;
     let pair = read_extents(text, begun, known.extents, notes)?;
@@ -134,15 +113,9 @@ fn read_matrix_form(
     notes: &mut Notes,
 ) -> Result<Found<MatrixLine>, CertRefusal>
     requires { at ≤ length text.now }
-    ensures moves { IfOk result (λ f. (at + matrix_line_nodes f.value ≤ f.to) × (f.to ≤ length text.now)) }
     ensures known { notes.new.unknown ≡ None → IfOk result (λ f. HasExtents known.now.extents f.value) }
-    ensures read { IfOk result (λ f. IsRead text.now at f.to (matrix_line_text f.value)) }
-    ensures noted { IfOk result (λ f. notes.new.unknown ≡ or_else notes.old.unknown (unknown_cell known.now f.value at)) }
-    ensures places { IfOk result (λ f. notes.new.places.items ≡ notes.old.places.items ++ matrix_line_places f.value at) }
-    ensures whole { IfOk result (λ f. IsWhole MatrixForm text.now at f.to) }
-    ensures refused { IfErr result (λ e. IsRefused MatrixForm (Some 64) text.now at e) }
-    ensures shallow { IfOk result (λ f. IsShallow 64 text.now at f.to) }
-    ensures shallow_till { IfErr result (λ e. IsShallowTill 64 text.now at e) }
+    ensures read { IfOk result (λ f. IsPartRead MatrixForm 64 (matrix_line_part known.now f.value) text.now at f.to notes.old notes.new) }
+    ensures refused { IfErr result (λ e. IsPartRefused MatrixForm 64 text.now at e) }
 {
     if stands_at(text, at, b'c') {
         read_cover(alloc, known, text, at, notes)
@@ -177,12 +150,8 @@ pub fn read_matrix_line(
     ensures moves { IfOk result (λ f. (at + matrix_line_nodes f.value < f.to) × (f.to ≤ length text.now)) }
     ensures known { notes.new.unknown ≡ None → IfOk result (λ f. HasExtents known.now.extents f.value) }
     ensures read { IfOk result (λ f. IsRead text.now at f.to (matrix_line_text f.value ++ 10 ∷ [])) }
-    ensures noted { IfOk result (λ f. notes.new.unknown ≡ or_else notes.old.unknown (unknown_cell known.now f.value at)) }
-    ensures places { IfOk result (λ f. notes.new.places.items ≡ notes.old.places.items ++ matrix_line_places f.value at) }
-    ensures whole { IfOk result (λ f. IsWhole MatrixLineForm text.now at f.to) }
-    ensures refused { IfErr result (λ e. IsRefused MatrixLineForm (Some 64) text.now at e) }
-    ensures shallow { IfOk result (λ f. IsShallow 64 text.now at f.to) }
-    ensures shallow_till { IfErr result (λ e. IsShallowTill 64 text.now at e) }
+    ensures line { IfOk result (λ f. IsPartRead MatrixLineForm 64 (both_parts (matrix_line_part known.now f.value) (word_part (10 ∷ []))) text.now at f.to notes.old notes.new) }
+    ensures refused { IfErr result (λ e. IsPartRefused MatrixLineForm 64 text.now at e) }
 {
     let line = read_matrix_form(alloc, known, text, at, notes)?;
     let to = read_word(text, line.to, b"\n")?;

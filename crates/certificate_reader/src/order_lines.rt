@@ -1,16 +1,14 @@
 // The lines of a certificate of orders.
 ghost use Rattle.std.specs.Prelude.{◌≡◌, ◌<◌, ◌≤◌, ◌+◌, ◌++◌, ◌∷◌, [], None, IfOk, length, IfErr, Some, codes};
-ghost use Rattle.certificate_reader.specs.Reads.{IsRead};
-ghost use Rattle.certificate_reader.specs.Beginnings.{IsShallow, IsShallowTill, Then, Word, IsWhole, IsRefused};
-ghost use Rattle.certificate_reader.specs.LineGrammar.{PositionForm, Positions, PositionsLine, SideForm, QuestionForm, BeforeForm, AtOrBeforeForm, LackForm, ClaimForm, PlaceForm, PlaceLineForm, PairForm, CycleForm, OrderTree, OrderForm, OrderLineForm};
-ghost use Rattle.certificate_reader.specs.declared.order_lines.Known.{Known};
-ghost use Rattle.certificate_reader.specs.Unknowns.{or_else, unknown_claim, unknown_in, unknown_pair};
-ghost use Rattle.certificate_reader.specs.OrderTexts.{position_text, positions_text, side_text, question_text, claim_text, order_line_text, claim_places, order_line_places, claim_nodes, order_line_nodes};
+ghost use Rattle.certificate_trees.specs.Reads.{IsRead};
+ghost use Rattle.certificate_trees.specs.Beginnings.{Then, Word, IsWhole, IsRefused, count};
+ghost use Rattle.certificate_trees.specs.Parts.{IsPartRead, IsPartRefused, IsStanding, both_parts, word_part};
+ghost use Rattle.certificate_reader.specs.LineGrammar.{PositionForm, Positions, PositionsLine, SideForm, QuestionForm, AtOrBeforeForm, LackForm, ClaimForm, PlaceForm, PlaceLineForm, PairForm, OrderTree, OrderForm, OrderLineForm};
+ghost use Rattle.certificate_reader.specs.OrderParts.{question_part, claim_part, order_line_part, order_tree_part};
+ghost use Rattle.certificate_reader.specs.OrderTexts.{position_text, positions_text, side_text, order_line_text, order_line_nodes};
 
-use crate::leaves::read_name;
-use crate::trees::DEPTH;
-use crate::words::{read_instant, read_number, stands_at};
-use crate::{CertRefusal, Found, Join, Notes, OrderLeaves, Weaken, read_tree, read_word};
+use crate::{CertRefusal, Found, Join, Notes, OrderLeaves, Weaken, read_word};
+use certificate_trees::{DEPTH, read_instant, read_name, read_number, read_tree, stands_at};
 use order_core::{Placing, Position};
 use proof_core::{Proof, SharedLeaf};
 use std::alloc::Global;
@@ -143,12 +141,8 @@ fn read_question(
     notes: &mut Notes,
 ) -> Result<Found<Question>, CertRefusal>
     requires { at ≤ length text.now }
-    ensures sticky { notes.new.unknown ≡ None → notes.old.unknown ≡ None }
-    ensures places { notes.new.places ≡ notes.old.places }
-    ensures read { IfOk result (λ f. IsRead text.now at f.to (question_text f.value)) }
-    ensures noted { IfOk result (λ f. notes.new.unknown ≡ or_else notes.old.unknown (unknown_pair extents f.value.first f.value.second at)) }
-    ensures whole { IfOk result (λ f. IsWhole QuestionForm text.now at f.to) }
-    ensures refused { IfErr result (λ e. IsRefused QuestionForm None text.now at e) }
+    ensures read { IfOk result (λ f. IsPartRead QuestionForm 64 (question_part extents f.value) text.now at f.to notes.old notes.new) }
+    ensures refused { IfErr result (λ e. IsPartRefused QuestionForm 64 text.now at e) }
 {
     let first = read_name(text, at, b'x', extents, notes)?;
     let between = read_word(text, first.to, b" ")?;
@@ -165,31 +159,22 @@ fn read_question(
     })
 }
 
-// `lt` and a tree.
-fn read_before(
+// A word without parentheses and a tree behind it.
+fn read_order_tree(
     alloc: Global,
     known: &Known,
     text: &[u8],
     at: usize,
+    word: &[u8],
     notes: &mut Notes,
-) -> Result<Found<Claim>, CertRefusal>
-    requires { at ≤ length text.now }
-    ensures sticky { notes.new.unknown ≡ None → notes.old.unknown ≡ None }
-    ensures moves { IfOk result (λ f. (at + claim_nodes f.value ≤ f.to) × (f.to ≤ length text.now)) }
-    ensures read { IfOk result (λ f. IsRead text.now at f.to (claim_text f.value)) }
-    ensures noted { IfOk result (λ f. notes.new.unknown ≡ or_else notes.old.unknown (unknown_claim known.now f.value at)) }
-    ensures places { IfOk result (λ f. notes.new.places.items ≡ notes.old.places.items ++ claim_places f.value at) }
-    ensures whole { IfOk result (λ f. IsWhole (BeforeForm known.now.leaves.kept) text.now at f.to) }
-    ensures refused { IfErr result (λ e. IsRefused (BeforeForm known.now.leaves.kept) (Some 64) text.now at e) }
-    ensures shallow { IfOk result (λ f. IsShallow 64 text.now at f.to) }
-    ensures shallow_till { IfErr result (λ e. IsShallowTill 64 text.now at e) }
+) -> Result<Found<OrderProof>, CertRefusal>
+    requires within { at ≤ length text.now }
+    requires flat { (count 40 word.now ≡ 0) × (count 41 word.now ≡ 0) }
+    ensures read { IfOk result (λ f. IsPartRead (Then (Word word.now) (OrderTree known.now.leaves.kept)) 64 (both_parts (word_part word.now) (order_tree_part known.now f.value)) text.now at f.to notes.old notes.new) }
+    ensures refused { IfErr result (λ e. IsPartRefused (Then (Word word.now) (OrderTree known.now.leaves.kept)) 64 text.now at e) }
 {
-    let behind = read_word(text, at, b"lt ")?;
-    let tree = read_tree(alloc, &known.leaves, text, behind, DEPTH, notes)?;
-    Ok(Found {
-        value: Claim::Before(tree.value),
-        to: tree.to,
-    })
+    let behind = read_word(text, at, word)?;
+    read_tree(alloc, &known.leaves, text, behind, DEPTH, notes)
 }
 
 // `le`, a tree and a placing.
@@ -201,15 +186,8 @@ fn read_at_or_before(
     notes: &mut Notes,
 ) -> Result<Found<Claim>, CertRefusal>
     requires { at ≤ length text.now }
-    ensures sticky { notes.new.unknown ≡ None → notes.old.unknown ≡ None }
-    ensures moves { IfOk result (λ f. (at + claim_nodes f.value ≤ f.to) × (f.to ≤ length text.now)) }
-    ensures read { IfOk result (λ f. IsRead text.now at f.to (claim_text f.value)) }
-    ensures noted { IfOk result (λ f. notes.new.unknown ≡ or_else notes.old.unknown (unknown_claim known.now f.value at)) }
-    ensures places { IfOk result (λ f. notes.new.places.items ≡ notes.old.places.items ++ claim_places f.value at) }
-    ensures whole { IfOk result (λ f. IsWhole (AtOrBeforeForm known.now.leaves.kept) text.now at f.to) }
-    ensures refused { IfErr result (λ e. IsRefused (AtOrBeforeForm known.now.leaves.kept) (Some 64) text.now at e) }
-    ensures shallow { IfOk result (λ f. IsShallow 64 text.now at f.to) }
-    ensures shallow_till { IfErr result (λ e. IsShallowTill 64 text.now at e) }
+    ensures read { IfOk result (λ f. IsPartRead (AtOrBeforeForm known.now.leaves.kept) 64 (claim_part known.now f.value) text.now at f.to notes.old notes.new) }
+    ensures refused { IfErr result (λ e. IsPartRefused (AtOrBeforeForm known.now.leaves.kept) 64 text.now at e) }
 {
     let behind = read_word(text, at, b"le ")?;
     let tree = read_tree(alloc, &known.leaves, text, behind, DEPTH, notes)?;
@@ -229,13 +207,8 @@ fn read_lack(
     notes: &mut Notes,
 ) -> Result<Found<Claim>, CertRefusal>
     requires { at ≤ length text.now }
-    ensures sticky { notes.new.unknown ≡ None → notes.old.unknown ≡ None }
-    ensures moves { IfOk result (λ f. (at + claim_nodes f.value ≤ f.to) × (f.to ≤ length text.now)) }
-    ensures read { IfOk result (λ f. IsRead text.now at f.to (claim_text f.value)) }
-    ensures noted { IfOk result (λ f. notes.new.unknown ≡ or_else notes.old.unknown (unknown_claim known.now f.value at)) }
-    ensures places { IfOk result (λ f. notes.new.places.items ≡ notes.old.places.items ++ claim_places f.value at) }
-    ensures whole { IfOk result (λ f. IsWhole LackForm text.now at f.to) }
-    ensures refused { IfErr result (λ e. IsRefused LackForm None text.now at e) }
+    ensures read { IfOk result (λ f. IsPartRead LackForm 64 (claim_part known.now f.value) text.now at f.to notes.old notes.new) }
+    ensures refused { IfErr result (λ e. IsPartRefused LackForm 64 text.now at e) }
 {
     let behind = read_word(text, at, b"no ")?;
     let placing = read_name(text, behind, b'p', known.placings, notes)?;
@@ -253,36 +226,33 @@ fn read_claim(
     notes: &mut Notes,
 ) -> Result<Found<Claim>, CertRefusal>
     requires { at ≤ length text.now }
-    ensures sticky { notes.new.unknown ≡ None → notes.old.unknown ≡ None }
-    ensures moves { IfOk result (λ f. (at + claim_nodes f.value ≤ f.to) × (f.to ≤ length text.now)) }
-    ensures read { IfOk result (λ f. IsRead text.now at f.to (claim_text f.value)) }
-    ensures noted { IfOk result (λ f. notes.new.unknown ≡ or_else notes.old.unknown (unknown_claim known.now f.value at)) }
-    ensures places { IfOk result (λ f. notes.new.places.items ≡ notes.old.places.items ++ claim_places f.value at) }
-    ensures whole { IfOk result (λ f. IsWhole (ClaimForm known.now.leaves.kept) text.now at f.to) }
-    ensures refused { IfErr result (λ e. IsRefused (ClaimForm known.now.leaves.kept) (Some 64) text.now at e) }
-    ensures shallow { IfOk result (λ f. IsShallow 64 text.now at f.to) }
-    ensures shallow_till { IfErr result (λ e. IsShallowTill 64 text.now at e) }
+    ensures read { IfOk result (λ f. IsPartRead (ClaimForm known.now.leaves.kept) 64 (claim_part known.now f.value) text.now at f.to notes.old notes.new) }
+    ensures refused { IfErr result (λ e. IsPartRefused (ClaimForm known.now.leaves.kept) 64 text.now at e) }
 {
     if !stands_at(text, at, b'l') {
         read_lack(known, text, at, notes)
     } else if stands_at(text, at + 1, b't') {
-        read_before(alloc, known, text, at, notes)
+        let tree = read_order_tree(alloc, known, text, at, b"lt ", notes)?;
+        Ok(Found {
+            value: Claim::Before(tree.value),
+            to: tree.to,
+        })
     } else {
         read_at_or_before(alloc, known, text, at, notes)
     }
 }
 
-fn read_place(alloc: Global, text: &[u8], at: usize) -> Result<Found<OrderLine>, CertRefusal>
+// `place` and positions.
+fn read_place(alloc: Global, text: &[u8], at: usize) -> Result<Found<Placing>, CertRefusal>
     requires { at ≤ length text.now }
-    ensures read { IfOk result (λ f. IsRead text.now at f.to (order_line_text f.value) × (order_line_places f.value at ≡ []) × (order_line_nodes f.value ≡ 0)) }
-    ensures noted { IfOk result (λ f. (known : Known) → unknown_in known f.value at ≡ None) }
-    ensures whole { IfOk result (λ f. IsWhole PlaceForm text.now at f.to) }
-    ensures refused { IfErr result (λ e. IsRefused PlaceLineForm None text.now at e) }
+    ensures read { IfOk result (λ f. IsRead text.now at f.to (codes "place" ++ positions_text f.value)) }
+    ensures stands { IfOk result (λ f. IsStanding PlaceForm 64 text.now at f.to) }
+    ensures refused { IfErr result (λ e. IsPartRefused PlaceLineForm 64 text.now at e) }
 {
     let behind = read_word(text, at, b"place")?;
     let placing = read_positions(alloc, text, behind)?;
     Ok(Found {
-        value: OrderLine::Place(placing.value),
+        value: placing.value,
         to: placing.to,
     })
 }
@@ -295,15 +265,8 @@ fn read_pair(
     notes: &mut Notes,
 ) -> Result<Found<OrderLine>, CertRefusal>
     requires { at ≤ length text.now }
-    ensures sticky { notes.new.unknown ≡ None → notes.old.unknown ≡ None }
-    ensures moves { IfOk result (λ f. (at + order_line_nodes f.value ≤ f.to) × (f.to ≤ length text.now)) }
-    ensures read { IfOk result (λ f. IsRead text.now at f.to (order_line_text f.value)) }
-    ensures noted { IfOk result (λ f. notes.new.unknown ≡ or_else notes.old.unknown (unknown_in known.now f.value at)) }
-    ensures places { IfOk result (λ f. notes.new.places.items ≡ notes.old.places.items ++ order_line_places f.value at) }
-    ensures whole { IfOk result (λ f. IsWhole (PairForm known.now.leaves.kept) text.now at f.to) }
-    ensures refused { IfErr result (λ e. IsRefused (PairForm known.now.leaves.kept) (Some 64) text.now at e) }
-    ensures shallow { IfOk result (λ f. IsShallow 64 text.now at f.to) }
-    ensures shallow_till { IfErr result (λ e. IsShallowTill 64 text.now at e) }
+    ensures read { IfOk result (λ f. IsPartRead (PairForm known.now.leaves.kept) 64 (order_line_part known.now f.value) text.now at f.to notes.old notes.new) }
+    ensures refused { IfErr result (λ e. IsPartRefused (PairForm known.now.leaves.kept) 64 text.now at e) }
 {
     let begun = read_word(text, at, b"pair ")?;
     let question = read_question(text, begun, known.extents, notes)?;
@@ -312,72 +275,6 @@ fn read_pair(
     Ok(Found {
         value: OrderLine::Pair(question.value, claim.value),
         to: claim.to,
-    })
-}
-
-fn read_cycle(
-    alloc: Global,
-    known: &Known,
-    text: &[u8],
-    at: usize,
-    notes: &mut Notes,
-) -> Result<Found<OrderLine>, CertRefusal>
-    requires { at ≤ length text.now }
-    ensures sticky { notes.new.unknown ≡ None → notes.old.unknown ≡ None }
-    ensures moves { IfOk result (λ f. (at + order_line_nodes f.value ≤ f.to) × (f.to ≤ length text.now)) }
-    ensures read { IfOk result (λ f. IsRead text.now at f.to (order_line_text f.value)) }
-    ensures noted { IfOk result (λ f. notes.new.unknown ≡ or_else notes.old.unknown (unknown_in known.now f.value at)) }
-    ensures places { IfOk result (λ f. notes.new.places.items ≡ notes.old.places.items ++ order_line_places f.value at) }
-    ensures whole { IfOk result (λ f. IsWhole (CycleForm known.now.leaves.kept) text.now at f.to) }
-    ensures refused { IfErr result (λ e. IsRefused (CycleForm known.now.leaves.kept) (Some 64) text.now at e) }
-    ensures shallow { IfOk result (λ f. IsShallow 64 text.now at f.to) }
-    ensures shallow_till { IfErr result (λ e. IsShallowTill 64 text.now at e) }
-{
-    let behind = read_word(text, at, b"cycle ")?;
-    let tree = read_tree(alloc, &known.leaves, text, behind, DEPTH, notes)?;
-    Ok(Found {
-        value: OrderLine::Cycle(tree.value),
-        to: tree.to,
-    })
-}
-
-fn read_let(
-    alloc: Global,
-    known: &Known,
-    text: &[u8],
-    at: usize,
-    notes: &mut Notes,
-) -> Result<Found<OrderLine>, CertRefusal>
-    requires { at ≤ length text.now }
-    ensures sticky { notes.new.unknown ≡ None → notes.old.unknown ≡ None }
-    ensures moves { IfOk result (λ f. (at + order_line_nodes f.value ≤ f.to) × (f.to ≤ length text.now)) }
-    ensures read { IfOk result (λ f. IsRead text.now at f.to (order_line_text f.value)) }
-    ensures noted { IfOk result (λ f. notes.new.unknown ≡ or_else notes.old.unknown (unknown_in known.now f.value at)) }
-    ensures places { IfOk result (λ f. notes.new.places.items ≡ notes.old.places.items ++ order_line_places f.value at) }
-    ensures whole { IfOk result (λ f. IsWhole (Then (Word (codes "let ")) (OrderTree known.now.leaves.kept)) text.now at f.to) }
-    ensures refused { IfErr result (λ e. IsRefused (Then (Word (codes "let ")) (OrderTree known.now.leaves.kept)) (Some 64) text.now at e) }
-    ensures shallow { IfOk result (λ f. IsShallow 64 text.now at f.to) }
-    ensures shallow_till { IfErr result (λ e. IsShallowTill 64 text.now at e) }
-{
-    let behind = read_word(text, at, b"let ")?;
-    let tree = read_tree(alloc, &known.leaves, text, behind, DEPTH, notes)?;
-    Ok(Found {
-        value: OrderLine::Let(tree.value),
-        to: tree.to,
-    })
-}
-
-fn read_end(text: &[u8], at: usize) -> Result<Found<OrderLine>, CertRefusal>
-    requires { at ≤ length text.now }
-    ensures read { IfOk result (λ f. IsRead text.now at f.to (order_line_text f.value) × (order_line_places f.value at ≡ []) × (order_line_nodes f.value ≡ 0)) }
-    ensures noted { IfOk result (λ f. (known : Known) → unknown_in known f.value at ≡ None) }
-    ensures whole { IfOk result (λ f. IsWhole (Word (codes "end")) text.now at f.to) }
-    ensures refused { IfErr result (λ e. IsRefused (Word (codes "end")) None text.now at e) }
-{
-    let to = read_word(text, at, b"end")?;
-    Ok(Found {
-        value: OrderLine::End,
-        to,
     })
 }
 
@@ -390,28 +287,37 @@ fn read_order_form(
     notes: &mut Notes,
 ) -> Result<Found<OrderLine>, CertRefusal>
     requires { at ≤ length text.now }
-    ensures sticky { notes.new.unknown ≡ None → notes.old.unknown ≡ None }
-    ensures moves { IfOk result (λ f. (at + order_line_nodes f.value ≤ f.to) × (f.to ≤ length text.now)) }
-    ensures read { IfOk result (λ f. IsRead text.now at f.to (order_line_text f.value)) }
-    ensures noted { IfOk result (λ f. notes.new.unknown ≡ or_else notes.old.unknown (unknown_in known.now f.value at)) }
-    ensures places { IfOk result (λ f. notes.new.places.items ≡ notes.old.places.items ++ order_line_places f.value at) }
-    ensures whole { IfOk result (λ f. IsWhole (OrderForm known.now.leaves.kept) text.now at f.to) }
-    ensures refused { IfErr result (λ e. IsRefused (OrderLineForm known.now.leaves.kept) (Some 64) text.now at e) }
-    ensures shallow { IfOk result (λ f. IsShallow 64 text.now at f.to) }
-    ensures shallow_till { IfErr result (λ e. IsShallowTill 64 text.now at e) }
+    ensures read { IfOk result (λ f. IsPartRead (OrderForm known.now.leaves.kept) 64 (order_line_part known.now f.value) text.now at f.to notes.old notes.new) }
+    ensures refused { IfErr result (λ e. IsPartRefused (OrderLineForm known.now.leaves.kept) 64 text.now at e) }
 {
     if stands_at(text, at, b'p') {
         if stands_at(text, at + 1, b'l') {
-            read_place(alloc, text, at)
+            let placing = read_place(alloc, text, at)?;
+            Ok(Found {
+                value: OrderLine::Place(placing.value),
+                to: placing.to,
+            })
         } else {
             read_pair(alloc, known, text, at, notes)
         }
     } else if stands_at(text, at, b'c') {
-        read_cycle(alloc, known, text, at, notes)
+        let tree = read_order_tree(alloc, known, text, at, b"cycle ", notes)?;
+        Ok(Found {
+            value: OrderLine::Cycle(tree.value),
+            to: tree.to,
+        })
     } else if known.leaves.kept.is_some() && stands_at(text, at, b'l') {
-        read_let(alloc, known, text, at, notes)
+        let tree = read_order_tree(alloc, known, text, at, b"let ", notes)?;
+        Ok(Found {
+            value: OrderLine::Let(tree.value),
+            to: tree.to,
+        })
     } else {
-        read_end(text, at)
+        let to = read_word(text, at, b"end")?;
+        Ok(Found {
+            value: OrderLine::End,
+            to,
+        })
     }
 }
 
@@ -426,12 +332,8 @@ pub fn read_order_line(
     requires { at ≤ length text.now }
     ensures moves { IfOk result (λ f. (at + order_line_nodes f.value < f.to) × (f.to ≤ length text.now)) }
     ensures read { IfOk result (λ f. IsRead text.now at f.to (order_line_text f.value ++ 10 ∷ [])) }
-    ensures noted { IfOk result (λ f. notes.new.unknown ≡ or_else notes.old.unknown (unknown_in known.now f.value at)) }
-    ensures places { IfOk result (λ f. notes.new.places.items ≡ notes.old.places.items ++ order_line_places f.value at) }
-    ensures whole { IfOk result (λ f. IsWhole (OrderLineForm known.now.leaves.kept) text.now at f.to) }
-    ensures refused { IfErr result (λ e. IsRefused (OrderLineForm known.now.leaves.kept) (Some 64) text.now at e) }
-    ensures shallow { IfOk result (λ f. IsShallow 64 text.now at f.to) }
-    ensures shallow_till { IfErr result (λ e. IsShallowTill 64 text.now at e) }
+    ensures line { IfOk result (λ f. IsPartRead (OrderLineForm known.now.leaves.kept) 64 (both_parts (order_line_part known.now f.value) (word_part (10 ∷ []))) text.now at f.to notes.old notes.new) }
+    ensures refused { IfErr result (λ e. IsPartRefused (OrderLineForm known.now.leaves.kept) 64 text.now at e) }
 {
     let line = read_order_form(alloc, known, text, at, notes)?;
     let to = read_word(text, line.to, b"\n")?;

@@ -6,8 +6,6 @@ mod checking;
 mod lists;
 mod rules;
 mod sharing;
-#[cfg(test)]
-mod tests;
 mod trees;
 
 pub use balancing::balance;

@@ -1,5 +1,5 @@
 use Rattle.std.proofs.Common.{◌-◌, ◌≤◌, length, List}
-use Rattle.certificate_reader.specs.Reads.{IsRead}
+use Rattle.certificate_trees.specs.Reads.{IsRead}
 use Rattle.certificate_reader.specs.MatrixTexts.{matrix_line_text}
 use Rattle.certificate_reader.specs.declared.matrix_lines.MatrixLine.{MatrixLine}
 use Rattle.certificate_checker.specs.MatrixClaims.{AreCovers, AreMatrixTrue}

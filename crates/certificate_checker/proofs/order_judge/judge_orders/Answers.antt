@@ -1,11 +1,11 @@
 use Rattle.std.proofs.Common.{arith, ◌≡◌, ◌≤◌, ◌∙◌, [], ◌∷◌, ◌++◌, Some, refl, length, drop}
 use Rattle.std.specs.Prelude.{ℕ, Option, None, cond}
 use Rattle.std.proofs.lemmas.Result.{err_from_is_err_and}
-use Rattle.certificate_reader.specs.declared.refusals.CertRefusal.TheVariants.{K1, K6}
-use Rattle.certificate_reader.specs.Beginnings.{IsWhole, IsRefused}
+use Rattle.certificate_trees.specs.declared.refusals.CertRefusal.TheVariants.{K1, K6}
+use Rattle.certificate_trees.specs.Beginnings.{IsWhole, IsRefused}
 use Rattle.certificate_reader.specs.LineGrammar.{OrderLineForm}
 use Rattle.certificate_reader.specs.OrderTexts.{order_line_text}
-use Rattle.certificate_reader.proofs.Pieces.{none_read}
+use Rattle.certificate_trees.proofs.Pieces.{none_read}
 use Rattle.certificate_checker.specs.declared.verdicts.Verdict.{Verdict}
 use Rattle.certificate_checker.specs.Verified.{IsOrdersShown}
 use Rattle.certificate_checker.proofs.Bodies.{line_read, begun, orders_shown, if_ok}
@@ -62,8 +62,8 @@ lines-preserved c =
       );
       passed = line_passed (ClaimLine (cond c.args.shares (Some 0) None)) (OrderLineForm (cond c.args.shares (Some 0) None)) (order_lines (cond c.args.shares (Some 0) None))
           64 c.args.text.now c.args.from c.lines.at c.lines.invariant.passed c.in_ok-line.line.to (order_line_text c.in_ok-line.line.value ++ 10 ∷ [])
-          (any_kept (λ M. IsWhole M c.args.text.now c.lines.at c.in_ok-line.line.to) c.args.shares c.lines.judge.kept c.known-known.result.leaves.kept c.known-known.ensures c.in_ok-line.ensures.whole)
-          c.in_ok-line.ensures.shallow c.in_ok-line.ensures.read
+          (any_kept (λ M. IsWhole M c.args.text.now c.lines.at c.in_ok-line.line.to) c.args.shares c.lines.judge.kept c.known-known.result.leaves.kept c.known-known.ensures c.in_ok-line.ensures.line.stands.whole)
+          c.in_ok-line.ensures.line.stands.shallow c.in_ok-line.ensures.read
           (order_line_other c.in_ok-line.line.value c.in_default.not-End);
     }
 
@@ -74,14 +74,14 @@ returns-in_err-line-clause-refused c =
     rw (p.1, p.2) (passed_refused (ClaimLine kept) (OrderLineForm kept) (order_lines kept) 64 c.args.text.now c.args.from c.lines.at c.lines.invariant.passed c.in_err-line.field-0.0
     (line_refused (ClaimLine kept) (OrderLineForm kept) (order_lines kept) 64 c.args.text.now c.lines.at c.in_err-line.field-0.0
     (any_kept (λ M. IsRefused M (Some 64) c.args.text.now c.lines.at c.in_err-line.field-0.0) c.args.shares c.lines.judge.kept c.known-known.result.leaves.kept c.known-known.ensures
-    c.in_err-line.ensures.refused) c.in_err-line.ensures.shallow_till))
+    c.in_err-line.ensures.refused.refused) c.in_err-line.ensures.refused.shallow))
 
 pub returns-then-not-is_due-clause-refused : goal.returns-then-not-is_due-clause-refused
 returns-then-not-is_due-clause-refused c =
     let kept : Option ℕ = cond c.args.shares (Some 0) None in
     line_judged (ClaimLine kept) (OrderLineForm kept) (order_lines kept) 64 c.args.text.now c.args.from c.lines.at c.lines.invariant.passed c.in_ok-line.line.to
     (any_kept (λ M. IsWhole M c.args.text.now c.lines.at c.in_ok-line.line.to) c.args.shares c.lines.judge.kept c.known-known.result.leaves.kept c.known-known.ensures
-    c.in_ok-line.ensures.whole) (omega (arith, c.in_ok-line.ensures.moves.0)) c.in_ok-line.ensures.shallow (K6 c.lines.at) refl
+    c.in_ok-line.ensures.line.stands.whole) (omega (arith, c.in_ok-line.ensures.moves.0)) c.in_ok-line.ensures.line.stands.shallow (K6 c.lines.at) refl
 
 pub returns-in_err-check_names-clause-refused : goal.returns-in_err-check_names-clause-refused
 returns-in_err-check_names-clause-refused c =
@@ -89,7 +89,7 @@ returns-in_err-check_names-clause-refused c =
     let p = err_from_is_err_and c.from_residual-in_err-check_names.result c.from_residual-in_err-check_names.ensures.1 in
     rw (p.1, p.2) (line_judged (ClaimLine kept) (OrderLineForm kept) (order_lines kept) 64 c.args.text.now c.args.from c.lines.at c.lines.invariant.passed c.in_ok-line.line.to
     (any_kept (λ M. IsWhole M c.args.text.now c.lines.at c.in_ok-line.line.to) c.args.shares c.lines.judge.kept c.known-known.result.leaves.kept c.known-known.ensures
-    c.in_ok-line.ensures.whole) (omega (arith, c.in_ok-line.ensures.moves.0)) c.in_ok-line.ensures.shallow c.in_err-check_names.field-0.0
+    c.in_ok-line.ensures.line.stands.whole) (omega (arith, c.in_ok-line.ensures.moves.0)) c.in_ok-line.ensures.line.stands.shallow c.in_err-check_names.field-0.0
     (c.in_err-check_names.ensures.refused c.lines.at))
 
 pub returns-in_err-take-clause-refused : goal.returns-in_err-take-clause-refused
@@ -98,7 +98,7 @@ returns-in_err-take-clause-refused c =
     let p = err_from_is_err_and c.from_residual-in_err-take.result c.from_residual-in_err-take.ensures.1 in
     rw (p.1, p.2) (line_judged (ClaimLine kept) (OrderLineForm kept) (order_lines kept) 64 c.args.text.now c.args.from c.lines.at c.lines.invariant.passed c.in_ok-line.line.to
     (any_kept (λ M. IsWhole M c.args.text.now c.lines.at c.in_ok-line.line.to) c.args.shares c.lines.judge.kept c.known-known.result.leaves.kept c.known-known.ensures
-    c.in_ok-line.ensures.whole) (omega (arith, c.in_ok-line.ensures.moves.0)) c.in_ok-line.ensures.shallow c.in_err-take.field-0.0 c.in_err-take.ensures.refused)
+    c.in_ok-line.ensures.line.stands.whole) (omega (arith, c.in_ok-line.ensures.moves.0)) c.in_ok-line.ensures.line.stands.shallow c.in_err-take.field-0.0 c.in_err-take.ensures.refused)
 
 pub returns-in-End-clause-accepted : goal.returns-in-End-clause-accepted
 returns-in-End-clause-accepted c =
@@ -106,7 +106,7 @@ returns-in-End-clause-accepted c =
     let last = rw c.in-End.is at c.in_ok-line.ensures.read in
     if_ended (IsAccepted (Body (ClaimLine kept)) 64 c.args.text.now c.args.from) (length c.args.text.now) c.in_ok-line.line.to c.verdict.result c.ended.result c.ended.ensures.all
     (λ all. passed_accepted (ClaimLine kept) (OrderLineForm kept) (order_lines kept) 64 c.args.text.now c.args.from c.lines.at c.lines.invariant.passed
-    (last_accepted (ClaimLine kept) (OrderLineForm kept) (order_lines kept) 64 c.args.text.now c.lines.at c.in_ok-line.line.to last all c.in_ok-line.ensures.shallow))
+    (last_accepted (ClaimLine kept) (OrderLineForm kept) (order_lines kept) 64 c.args.text.now c.lines.at c.in_ok-line.line.to last all c.in_ok-line.ensures.line.stands.shallow))
 
 pub returns-in-End-clause-refused : goal.returns-in-End-clause-refused
 returns-in-End-clause-refused c =
@@ -114,4 +114,4 @@ returns-in-End-clause-refused c =
     let last = rw c.in-End.is at c.in_ok-line.ensures.read in
     if_more (IsRefusedAs (Body (ClaimLine kept)) 64 c.args.text.now c.args.from) (length c.args.text.now) c.in_ok-line.line.to c.ended.result c.ended.ensures.refused
     (λ more. passed_refused (ClaimLine kept) (OrderLineForm kept) (order_lines kept) 64 c.args.text.now c.args.from c.lines.at c.lines.invariant.passed (K1 c.in_ok-line.line.to)
-    (last_refused (ClaimLine kept) (OrderLineForm kept) (order_lines kept) 64 c.args.text.now c.lines.at c.in_ok-line.line.to last more c.in_ok-line.ensures.shallow))
+    (last_refused (ClaimLine kept) (OrderLineForm kept) (order_lines kept) 64 c.args.text.now c.lines.at c.in_ok-line.line.to last more c.in_ok-line.ensures.line.stands.shallow))

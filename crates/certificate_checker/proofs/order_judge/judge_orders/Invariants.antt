@@ -1,6 +1,6 @@
 use Rattle.std.proofs.Common.{◌≡◌, ◌-◌, ◌≤◌, length, List}
 use Rattle.std.specs.Prelude.{vec_len, cond, Some, None}
-use Rattle.certificate_reader.specs.Reads.{IsRead}
+use Rattle.certificate_trees.specs.Reads.{IsRead}
 use Rattle.certificate_reader.specs.OrderTexts.{order_line_text}
 use Rattle.certificate_reader.specs.declared.order_lines.OrderLine.{OrderLine}
 use Rattle.certificate_checker.specs.Questions.{IsSettled}

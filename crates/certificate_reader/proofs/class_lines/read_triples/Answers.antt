@@ -1,27 +1,30 @@
-use Rattle.std.proofs.Common.{None}
-use Rattle.certificate_reader.proofs.Steps.{both, handed_on, here, later}
-use Rattle.certificate_reader.proofs.LineSteps.{t_number, triple_triple, space_triple}
+use Rattle.std.proofs.Common.{codes, refl}
+use Rattle.certificate_trees.proofs.Shallow.{flat_number}
+use Rattle.certificate_trees.proofs.WordReads.{handed_on}
+use Rattle.certificate_trees.proofs.PartReads.{both_stand, first_part, second_part, flat_part_refused, flat_stands, word_refused, word_stands}
+use Rattle.certificate_reader.proofs.ClassForms.{space_triple, t_number, triple_triple}
 use Rattle.certificate_reader.proofs.class_lines.read_triples.Goals as goal
+
+pub returns-clause-stands : goal.returns-clause-stands
+returns-clause-stands c = both_stand triple_triple 64 (both_stand t_number 64 (word_stands (codes "t") refl 64 c.in_ok-begun.ensures.whole) (flat_stands _ flat_number 64 c.in_ok-first.ensures.whole))
+    (both_stand space_triple 64 (word_stands (codes " ") refl 64 c.in_ok-second_at.ensures.whole) (both_stand t_number 64 (word_stands (codes "t") refl 64 c.in_ok-between.ensures.whole) (flat_stands _ flat_number 64 c.in_ok-second.ensures.whole)))
 
 pub returns-in_err-begun-clause-refused : goal.returns-in_err-begun-clause-refused
 returns-in_err-begun-clause-refused c = handed_on c.from_residual.result _ _ c.from_residual.ensures.1
-    (here triple_triple None _ _ _ (here t_number None _ _ _ c.in_err-begun.ensures.refused))
+    (first_part triple_triple 64 (first_part t_number 64 (word_refused (codes "t") refl 64 c.in_err-begun.ensures.refused)))
 
 pub returns-in_err-first-clause-refused : goal.returns-in_err-first-clause-refused
 returns-in_err-first-clause-refused c = handed_on c.from_residual-in_err-first.result _ _ c.from_residual-in_err-first.ensures.1
-    (here triple_triple None _ _ _ (later t_number None _ c.in_ok-begun.ensures.whole c.in_err-first.ensures.refused))
+    (first_part triple_triple 64 (second_part t_number 64 (word_stands (codes "t") refl 64 c.in_ok-begun.ensures.whole) (flat_part_refused _ flat_number 64 c.in_err-first.ensures.refused)))
 
 pub returns-in_err-second_at-clause-refused : goal.returns-in_err-second_at-clause-refused
 returns-in_err-second_at-clause-refused c = handed_on c.from_residual-in_err-second_at.result _ _ c.from_residual-in_err-second_at.ensures.1
-    (later triple_triple None _ (both t_number c.in_ok-begun.ensures.whole c.in_ok-first.ensures.whole) (here space_triple None _ _ _ c.in_err-second_at.ensures.refused))
+    (second_part triple_triple 64 (both_stand t_number 64 (word_stands (codes "t") refl 64 c.in_ok-begun.ensures.whole) (flat_stands _ flat_number 64 c.in_ok-first.ensures.whole)) (first_part space_triple 64 (word_refused (codes " ") refl 64 c.in_err-second_at.ensures.refused)))
 
 pub returns-in_err-between-clause-refused : goal.returns-in_err-between-clause-refused
 returns-in_err-between-clause-refused c = handed_on c.from_residual-in_err-between.result _ _ c.from_residual-in_err-between.ensures.1
-    (later triple_triple None _ (both t_number c.in_ok-begun.ensures.whole c.in_ok-first.ensures.whole) (later space_triple None _ c.in_ok-second_at.ensures.whole (here t_number None _ _ _ c.in_err-between.ensures.refused)))
+    (second_part triple_triple 64 (both_stand t_number 64 (word_stands (codes "t") refl 64 c.in_ok-begun.ensures.whole) (flat_stands _ flat_number 64 c.in_ok-first.ensures.whole)) (second_part space_triple 64 (word_stands (codes " ") refl 64 c.in_ok-second_at.ensures.whole) (first_part t_number 64 (word_refused (codes "t") refl 64 c.in_err-between.ensures.refused))))
 
 pub returns-in_err-second-clause-refused : goal.returns-in_err-second-clause-refused
 returns-in_err-second-clause-refused c = handed_on c.from_residual-in_err-second.result _ _ c.from_residual-in_err-second.ensures.1
-    (later triple_triple None _ (both t_number c.in_ok-begun.ensures.whole c.in_ok-first.ensures.whole) (later space_triple None _ c.in_ok-second_at.ensures.whole (later t_number None _ c.in_ok-between.ensures.whole c.in_err-second.ensures.refused)))
-
-pub returns-clause-whole : goal.returns-clause-whole
-returns-clause-whole c = both triple_triple (both t_number c.in_ok-begun.ensures.whole c.in_ok-first.ensures.whole) (both space_triple c.in_ok-second_at.ensures.whole (both t_number c.in_ok-between.ensures.whole c.in_ok-second.ensures.whole))
+    (second_part triple_triple 64 (both_stand t_number 64 (word_stands (codes "t") refl 64 c.in_ok-begun.ensures.whole) (flat_stands _ flat_number 64 c.in_ok-first.ensures.whole)) (second_part space_triple 64 (word_stands (codes " ") refl 64 c.in_ok-second_at.ensures.whole) (second_part t_number 64 (word_stands (codes "t") refl 64 c.in_ok-between.ensures.whole) (flat_part_refused _ flat_number 64 c.in_err-second.ensures.refused))))

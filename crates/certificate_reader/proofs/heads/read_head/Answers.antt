@@ -1,8 +1,8 @@
 use Rattle.std.proofs.Common.{None}
-use Rattle.certificate_reader.specs.declared.refusals.CertRefusal.{CertRefusal}
-use Rattle.certificate_reader.specs.Beginnings.{IsRefused}
+use Rattle.certificate_trees.specs.declared.refusals.CertRefusal.{CertRefusal}
+use Rattle.certificate_trees.specs.Beginnings.{IsRefused}
 use Rattle.certificate_reader.specs.LineGrammar.{HeadForm}
-use Rattle.certificate_reader.proofs.WordReads.{handed_on}
+use Rattle.certificate_trees.proofs.WordReads.{handed_on}
 use Rattle.certificate_reader.proofs.HeadReads.{start_refused, second_refused, version_refused, first_version_refused, classes_refused, matrix_refused, orders_refused}
 use Rattle.certificate_reader.proofs.heads.read_head.Goals as goal
 

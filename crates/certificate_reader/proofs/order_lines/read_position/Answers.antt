@@ -1,6 +1,6 @@
 use Rattle.std.proofs.Common.{None}
-use Rattle.certificate_reader.proofs.Steps.{both, handed_on, here, later}
-use Rattle.certificate_reader.proofs.LineSteps.{instant_rank, slash_rank}
+use Rattle.certificate_trees.proofs.Steps.{both, handed_on, here, later}
+use Rattle.certificate_reader.proofs.OrderForms.{instant_rank, slash_rank}
 use Rattle.certificate_reader.proofs.order_lines.read_position.Goals as goal
 
 pub returns-in_err-instant-clause-refused : goal.returns-in_err-instant-clause-refused

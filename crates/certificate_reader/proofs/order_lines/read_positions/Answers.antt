@@ -1,6 +1,6 @@
 use Rattle.certificate_reader.proofs.Positions.{positions_more}
 use Rattle.certificate_reader.proofs.PositionReads.{one_more, position_refused, all_whole}
-use Rattle.certificate_reader.proofs.Steps.{handed_on}
+use Rattle.certificate_trees.proofs.Steps.{handed_on}
 use Rattle.certificate_reader.proofs.order_lines.read_positions.Goals as goal
 
 pub positions-preserved : goal.positions-preserved

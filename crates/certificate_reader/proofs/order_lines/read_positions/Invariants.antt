@@ -1,5 +1,5 @@
 use Rattle.std.proofs.Common.{◌-◌, length}
-use Rattle.certificate_reader.specs.Reads.{IsRead}
+use Rattle.certificate_trees.specs.Reads.{IsRead}
 use Rattle.certificate_reader.specs.OrderTexts.{positions_text}
 use Rattle.certificate_reader.proofs.PositionReads.{SoFar}
 use Rattle.certificate_reader.proofs.order_lines.read_positions.Given as goal

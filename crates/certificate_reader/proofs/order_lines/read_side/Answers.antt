@@ -1,6 +1,6 @@
 use Rattle.std.proofs.Common.{◌+◌, [], ◌∷◌}
-use Rattle.certificate_reader.proofs.Pieces.{byte_read, then_read}
-use Rattle.certificate_reader.proofs.Steps.{handed_on}
+use Rattle.certificate_trees.proofs.Pieces.{byte_read, then_read}
+use Rattle.certificate_trees.proofs.Steps.{handed_on}
 use Rattle.certificate_reader.proofs.SideReads.{start_end, no_start_start, no_end, end_start_behind, no_end_end_behind}
 use Rattle.certificate_reader.proofs.order_lines.read_side.Goals as goal
 

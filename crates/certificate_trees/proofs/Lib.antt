@@ -1,0 +1,17 @@
+pub mod Pieces
+pub mod Codes
+pub mod TreePieces
+pub mod Cuts
+pub mod Chains
+pub mod Numbers
+pub mod Choices
+pub mod WordReads
+pub mod NumberReads
+pub mod TreeForms
+pub mod TreeReading
+pub mod LeafForms
+pub mod LeafReads
+pub mod Shallow
+pub mod Steps
+pub mod Unknown
+pub mod PartReads
