@@ -11,7 +11,7 @@ use Rattle.crm_type_check.specs.declared.Fault.{Fault}
 use Rattle.crm_type_check.specs.declared.FaultKind.{FaultKind}
 use Rattle.crm_type_check.specs.declared.FaultKind.TheVariants.{C1, C2, C3, D1, R1, R2, R3, R4, A1}
 use Rattle.certificate_checker.specs.declared.class_judge.TypeRow.{TypeRow}
-use Rattle.crm_core.specs.Reports.{faults_in}
+use Rattle.report_base.specs.Reports.{faults_in}
 
 -- the class of the profile that a triple gives its subject
 abbrev pub class_given : NameLists → Triple → Option ℕ

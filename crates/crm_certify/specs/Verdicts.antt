@@ -3,17 +3,16 @@ use Rattle.std.specs.Prelude.{◌≡◌, ◌⊎◌, ℕ, List, ◌++◌, codes, 
 use Rattle.std.specs.Fmt.{decimal}
 use Rattle.certificate_checker.specs.declared.verdicts.Verdict.{Verdict}
 use Rattle.certificate_checker.specs.declared.verdicts.Verdict.TheVariants.{Consistent, Inconsistent, Classes, Matrix}
-use Rattle.crm_core.specs.declared.status.Status.{Status}
-use Rattle.crm_core.specs.declared.status.Status.TheVariants.{Done, Findings as HasFindings, Refused}
+use Rattle.report_base.specs.declared.status.Status.{Status}
+use Rattle.report_base.specs.declared.status.Status.TheVariants.{Done, Findings as HasFindings, Refused}
 use Rattle.rdf_terms.specs.declared.triples.Records.{Records}
 use Rattle.rdf_chars.specs.Utf8.{IsUtf8Length}
-use Rattle.crm_outside.specs.declared.printing.PrintFault.{PrintFault}
-use Rattle.certificate_reader.specs.declared.refusals.CertRefusal.{CertRefusal}
-use Rattle.certificate_reader.specs.declared.refusals.CertRefusal.TheVariants.{K1, K2, K3, K4, K5, K6, Memory}
+use Rattle.certificate_trees.specs.declared.refusals.CertRefusal.{CertRefusal}
+use Rattle.certificate_trees.specs.declared.refusals.CertRefusal.TheVariants.{K1, K2, K3, K4, K5, K6, Memory}
 use Rattle.certificate_checker.specs.Verified.{IsVerified}
 use Rattle.certificate_checker.specs.Texts.{CertificateForm, IsRefusedAs}
-use Rattle.crm_core.specs.declared.status.ReportFault.{ReportFault}
-use Rattle.crm_core.specs.Reports.{Report, Tells, Writes, findings_from, within_limits}
+use Rattle.report_base.specs.declared.status.ReportFault.{ReportFault}
+use Rattle.report_base.specs.Reports.{Report, Writes, findings_from, within_limits}
 use Rattle.crm_certify.specs.Types.{types_in, due_in}
 
 abbrev pub verdict_text : Verdict → List ℕ
@@ -58,14 +57,10 @@ IsJudgement records cert r =
     ⊎ ((f : CertRefusal) × ((refusal_report f ≡ Some r) × IsRefusedAs CertificateForm 64 cert 0 f)))
 
 module _ {S : Type 0} (written : S → Option (List ℕ)) (faults sure : S → ℕ) (old new : S) where
-  abbrev pub TellsJudged : Records → List ℕ → Result Status PrintFault → Type 0
-  TellsJudged records cert result = (r : Report) × (IsJudgement records cert r × Tells written faults sure old new r result)
+  abbrev pub WritesJudged : Records → List ℕ → Result Status ReportFault → Type 0
+  WritesJudged records cert result = (r : Report) × (IsJudgement records cert r × Writes written faults sure old new r result)
 
   -- within the limits of the counts of extents, dates and orders
-  abbrev pub TellsVerdict : Records → List ℕ → Result Status PrintFault → Type 0
-  TellsVerdict records cert result =
-      (r : Report) × (IsJudgement records cert r × Tells written faults sure old new (within_limits (findings_from records) r) result)
-
   abbrev pub WritesVerdict : Records → List ℕ → Result Status ReportFault → Type 0
   WritesVerdict records cert result =
       (r : Report) × (IsJudgement records cert r × Writes written faults sure old new (within_limits (findings_from records) r) result)

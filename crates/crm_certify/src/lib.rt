@@ -1,4 +1,4 @@
-//! The certificates of a file: written from what its records say, and judged against them.
+//! The certificates of records: written from what these say, and judged against them.
 #![tactic(auto)]
 
 mod classes;
@@ -7,12 +7,10 @@ mod judging;
 mod kinds;
 mod matrix;
 mod telling;
-#[cfg(test)]
-mod tests;
 mod types;
 mod utf8;
 mod writing;
 
-pub use judging::write_verdict;
+pub use judging::report_verdict;
 pub use kinds::CertKind;
-pub use writing::write_certificate;
+pub use writing::report_certificate;

@@ -6,7 +6,8 @@ ghost use Rattle.crm_certify.specs.MatrixStages.{IsMatrixStage, IsReadyFrom, IsF
 
 use chain_certificate::Routes;
 use harris_matrix::{CellPair, Matrix, WalksTo};
-use order_certificates::{Basis, Drafts, append_balanced, append_name};
+use order_analysis::Analysis;
+use order_certificates::{Drafts, append_balanced, append_name};
 use order_closure::Reach;
 use order_core::Point;
 use std::alloc::{AllocError, Global};
@@ -32,8 +33,8 @@ pub(crate) enum MatrixStage {
 }
 
 // The least extent of a cell.
-fn representative(basis: &Basis, matrix: &Matrix, cell: u32) -> Option<u32>
-    ensures { IfSome result (λ a. a < basis.now.set.extents) }
+fn representative(analysis: &Analysis, matrix: &Matrix, cell: u32) -> Option<u32>
+    ensures { IfSome result (λ a. a < analysis.now.set.extents) }
 {
     let Some(cell) = matrix.cells().get(cell as usize) else {
         return None;
@@ -42,7 +43,7 @@ fn representative(basis: &Basis, matrix: &Matrix, cell: u32) -> Option<u32>
         return None;
     };
     let a = *least;
-    if a < basis.set.extents() {
+    if a < analysis.set().extents() {
         Some(a)
     } else {
         None
@@ -59,15 +60,20 @@ fn append_extents(word: &[u8], a: u32, b: u32, line: &mut Vec<u8>) -> Result<(),
 }
 
 // Appends the balanced chain from the end of one extent to the start of another, weakened where it shows `<`.
-fn append_chain(basis: &Basis, from: &From, b: u32, line: &mut Vec<u8>) -> Result<(), AllocError>
-    requires from { IsFrom basis.now.set from.now }
-    requires to { b < basis.now.set.extents }
+fn append_chain(
+    analysis: &Analysis,
+    from: &From,
+    b: u32,
+    line: &mut Vec<u8>,
+) -> Result<(), AllocError>
+    requires from { IsFrom analysis.now.set from.now }
+    requires to { b < analysis.now.set.extents }
 {
-    let strict = basis
-        .closure
-        .between(Point::End(from.extent), Point::Start(b))
-        == Reach::Lt;
-    let Some(chain) = from.routes.chain(basis.alloc, Point::Start(b), strict)? else {
+    let strict = analysis.between(Point::End(from.extent), Point::Start(b)) == Reach::Lt;
+    let Some(chain) = from
+        .routes
+        .chain(analysis.alloc(), Point::Start(b), strict)?
+    else {
         return Ok(());
     };
     if strict {
@@ -79,77 +85,82 @@ fn append_chain(basis: &Basis, from: &From, b: u32, line: &mut Vec<u8>) -> Resul
     }
 }
 
-fn append_cover(basis: &Basis, from: &From, b: u32, line: &mut Vec<u8>) -> Result<(), AllocError>
-    requires from { IsFrom basis.now.set from.now }
-    requires to { b < basis.now.set.extents }
+fn append_cover(
+    analysis: &Analysis,
+    from: &From,
+    b: u32,
+    line: &mut Vec<u8>,
+) -> Result<(), AllocError>
+    requires from { IsFrom analysis.now.set from.now }
+    requires to { b < analysis.now.set.extents }
 {
     append_extents(b"cover ", from.extent, b, line)?;
-    append_chain(basis, from, b, line)?;
+    append_chain(analysis, from, b, line)?;
     line.push(b'\n')?;
     Ok(())
 }
 
-fn build_from(basis: &Basis, a: u32) -> Result<From, AllocError>
-    requires { a < basis.now.set.extents }
-    ensures { IfOk result (λ f. IsFrom basis.now.set f) }
+fn build_from(analysis: &Analysis, a: u32) -> Result<From, AllocError>
+    requires { a < analysis.now.set.extents }
+    ensures { IfOk result (λ f. IsFrom analysis.now.set f) }
 {
-    let routes = Routes::build_uncounted(basis.alloc, basis.set, basis.edges, Point::End(a))?;
+    let routes = analysis.routes(Point::End(a))?;
     Ok(From { extent: a, routes })
 }
 
 // The chains from the end of an extent, those at hand where they are these.
-fn chains_from(basis: &Basis, from: Option<From>, a: u32) -> Result<From, AllocError>
-    requires from { IsReadyFrom basis.now.set from }
-    requires within { a < basis.now.set.extents }
-    ensures { IfOk result (λ f. IsFrom basis.now.set f) }
+fn chains_from(analysis: &Analysis, from: Option<From>, a: u32) -> Result<From, AllocError>
+    requires from { IsReadyFrom analysis.now.set from }
+    requires within { a < analysis.now.set.extents }
+    ensures { IfOk result (λ f. IsFrom analysis.now.set f) }
 {
     match from {
         Some(kept) if kept.extent == a => Ok(kept),
-        _ => build_from(basis, a),
+        _ => build_from(analysis, a),
     }
 }
 
 // Appends the line of a cover, and keeps the chains from its first cell.
 fn next_cover(
-    basis: &Basis,
+    analysis: &Analysis,
     matrix: &Matrix,
     pair: CellPair,
     from: Option<From>,
     line: &mut Vec<u8>,
 ) -> Result<Option<From>, AllocError>
-    requires { IsReadyFrom basis.now.set from }
-    ensures { IfOk result (λ f. IsReadyFrom basis.now.set f) }
+    requires { IsReadyFrom analysis.now.set from }
+    ensures { IfOk result (λ f. IsReadyFrom analysis.now.set f) }
 {
-    let Some(a) = representative(basis, matrix, pair.first) else {
+    let Some(a) = representative(analysis, matrix, pair.first) else {
         return Ok(None);
     };
-    let Some(b) = representative(basis, matrix, pair.second) else {
+    let Some(b) = representative(analysis, matrix, pair.second) else {
         return Ok(None);
     };
-    let chains = chains_from(basis, from, a)?;
-    append_cover(basis, &chains, b, line)?;
+    let chains = chains_from(analysis, from, a)?;
+    append_cover(analysis, &chains, b, line)?;
     Ok(Some(chains))
 }
 
 // Appends the line of the walk from a cell to another, where there is one.
 fn append_walk(
-    basis: &Basis,
+    analysis: &Analysis,
     matrix: &Matrix,
     walks: &WalksTo,
     i: u32,
     j: u32,
     line: &mut Vec<u8>,
 ) -> Result<(), AllocError> {
-    let Some(a) = representative(basis, matrix, i) else {
+    let Some(a) = representative(analysis, matrix, i) else {
         return Ok(());
     };
-    let Some(b) = representative(basis, matrix, j) else {
+    let Some(b) = representative(analysis, matrix, j) else {
         return Ok(());
     };
-    if basis.closure.between(Point::End(a), Point::Start(b)) == Reach::None {
+    if analysis.between(Point::End(a), Point::Start(b)) == Reach::None {
         return Ok(());
     }
-    let Some(walk) = walks.from(basis.alloc, i)? else {
+    let Some(walk) = walks.from(analysis.alloc(), i)? else {
         return Ok(());
     };
     append_extents(b"walk ", a, b, line)?;
@@ -159,20 +170,20 @@ fn append_walk(
 }
 
 fn next_covers(
-    basis: &Basis,
+    analysis: &Analysis,
     matrix: &Matrix,
     at: usize,
     from: Option<From>,
     line: &mut Vec<u8>,
 ) -> Result<MatrixStage, AllocError>
-    requires { IsReadyFrom basis.now.set from }
-    ensures { IfOk result (λ s. IsMatrixStage basis.now.set s) }
+    requires { IsReadyFrom analysis.now.set from }
+    ensures { IfOk result (λ s. IsMatrixStage analysis.now.set s) }
 {
     let pairs = matrix.covers().as_slice();
     if at >= pairs.len() {
         return Ok(MatrixStage::Walks(0, 0));
     }
-    let kept = next_cover(basis, matrix, pairs[at], from, line)?;
+    let kept = next_cover(analysis, matrix, pairs[at], from, line)?;
     Ok(MatrixStage::Covers(at + 1, kept))
 }
 
@@ -202,14 +213,14 @@ pub(crate) fn walks_of<'a>(
 }
 
 fn next_walk(
-    basis: &Basis,
+    analysis: &Analysis,
     matrix: &Matrix,
     walks: &[WalksTo],
     i: u32,
     j: u32,
     line: &mut Vec<u8>,
 ) -> Result<MatrixStage, AllocError>
-    ensures { IfOk result (λ s. IsMatrixStage basis.now.set s) }
+    ensures { IfOk result (λ s. IsMatrixStage analysis.now.set s) }
 {
     let count = cell_count(matrix);
     if i >= count {
@@ -222,27 +233,27 @@ fn next_walk(
     let Some(walks_to) = walks.get(j as usize) else {
         return Ok(MatrixStage::Walks(i + 1, 0));
     };
-    append_walk(basis, matrix, walks_to, i, j, line)?;
+    append_walk(analysis, matrix, walks_to, i, j, line)?;
     Ok(MatrixStage::Walks(i, j + 1))
 }
 
 fn next_stage(
-    basis: &Basis,
+    analysis: &Analysis,
     matrix: &Matrix,
     walks: &[WalksTo],
     stage: MatrixStage,
     line: &mut Vec<u8>,
 ) -> Result<MatrixStage, AllocError>
-    requires { IsMatrixStage basis.now.set stage }
-    ensures { IfOk result (λ s. IsMatrixStage basis.now.set s) }
+    requires { IsMatrixStage analysis.now.set stage }
+    ensures { IfOk result (λ s. IsMatrixStage analysis.now.set s) }
 {
     match stage {
         MatrixStage::Head => {
             line.extend_from_slice(b"crmtime 1 matrix\n")?;
             Ok(MatrixStage::Covers(0, None))
         }
-        MatrixStage::Covers(at, from) => next_covers(basis, matrix, at, from, line),
-        MatrixStage::Walks(i, j) => next_walk(basis, matrix, walks, i, j, line),
+        MatrixStage::Covers(at, from) => next_covers(analysis, matrix, at, from, line),
+        MatrixStage::Walks(i, j) => next_walk(analysis, matrix, walks, i, j, line),
         MatrixStage::Over => Ok(MatrixStage::Over),
     }
 }
@@ -257,7 +268,7 @@ fn is_going_on(stage: &MatrixStage) -> bool {
 /// A certificate of a matrix, of which a part may be printed.
 #[derive(Drop)]
 pub(crate) struct MatrixPieces<'a> {
-    basis: &'a Basis<'a>,
+    analysis: &'a Analysis<'a>,
     matrix: &'a Matrix,
     walks: &'a [WalksTo<'a>],
     stage: MatrixStage,
@@ -266,14 +277,14 @@ pub(crate) struct MatrixPieces<'a> {
 impl<'a> MatrixPieces<'a> {
     /// The certificate of the matrix of the periods, of which nothing is printed.
     pub fn new(
-        basis: &'a Basis<'a>,
+        analysis: &'a Analysis<'a>,
         matrix: &'a Matrix,
         walks: &'a [WalksTo<'a>],
     ) -> MatrixPieces<'a>
         ensures { ⟦<MatrixPieces<'a> as Drafts>⟧.IsReady result }
     {
         MatrixPieces {
-            basis,
+            analysis,
             matrix,
             walks,
             stage: MatrixStage::Head,
@@ -284,11 +295,11 @@ impl<'a> MatrixPieces<'a> {
 impl<'a> Drafts for MatrixPieces<'a> {
     ghost use Rattle.crm_certify.specs.MatrixStages.{IsMatrixStage};
 
-    ghost IsReady = { λ p. IsMatrixStage p.basis.now.set p.stage };
+    ghost IsReady = { λ p. IsMatrixStage p.analysis.now.set p.stage };
 
     fn append_draft(&mut self, line: &mut Vec<u8>) -> Result<bool, AllocError> {
         let stage = std::mem::replace(&mut self.stage, MatrixStage::Over);
-        let next = next_stage(self.basis, self.matrix, self.walks, stage, line)?;
+        let next = next_stage(self.analysis, self.matrix, self.walks, stage, line)?;
         let more = is_going_on(&next);
         self.stage = next;
         Ok(more)

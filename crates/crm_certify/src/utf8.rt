@@ -4,8 +4,8 @@ ghost use Rattle.rdf_chars.specs.Utf8.{Finishes};
 
 use rdf_chars::{BadUtf8, Utf8Steps};
 
-/// The length of the longest front that is UTF-8, where the whole text is not.
-pub(crate) fn check_utf8(text: &[u8]) -> Result<(), BadUtf8>
+// Byte by byte, to find the place.
+fn find_bad_utf8(text: &[u8]) -> Result<(), BadUtf8>
     requires { length text.now < 2 ^ 32 }
     ensures { Finishes text.now result }
 {
@@ -14,4 +14,15 @@ pub(crate) fn check_utf8(text: &[u8]) -> Result<(), BadUtf8>
         let _said = steps.push(*byte);
     }
     steps.finish()
+}
+
+/// The length of the longest front that is UTF-8, where the whole text is not.
+pub(crate) fn check_utf8(text: &[u8]) -> Result<(), BadUtf8>
+    requires { length text.now < 2 ^ 32 }
+    ensures { Finishes text.now result }
+{
+    match str::from_utf8(text) {
+        Ok(_) => Ok(()),
+        Err(_) => find_bad_utf8(text),
+    }
 }

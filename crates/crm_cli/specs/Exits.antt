@@ -1,7 +1,7 @@
 -- The exit status of an outcome.
 use Rattle.std.specs.Prelude.{ℕ}
-use Rattle.crm_core.specs.declared.status.Status.{Status}
-use Rattle.crm_core.specs.declared.status.Status.TheVariants.{Done, Findings, Refused, Usage, ReadFault, WriteFault, Memory}
+use Rattle.report_base.specs.declared.status.Status.{Status}
+use Rattle.report_base.specs.declared.status.Status.TheVariants.{Done, Findings, Refused, Usage, ReadFault, WriteFault, Memory}
 
 abbrev pub exit_status : Status → ℕ
 exit_status Done = 0

@@ -1,5 +1,1 @@
 pub mod Exits
-pub mod Headline
-pub mod Outcomes
-pub mod Report
-pub mod Words

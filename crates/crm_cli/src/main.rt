@@ -2,18 +2,15 @@
 //! the starts and the ends of periods, and what follows from them.
 #![tactic(auto)]
 
-mod laws;
-mod run;
 #[cfg(test)]
 mod tests;
-mod words;
 
 ghost use Rattle.std.specs.Prelude.{◌≡◌};
 ghost use Rattle.crm_cli.specs.Exits.{exit_status};
 
-use crate::run::run;
 use crm_core::Status;
 use crm_outside::{DirShelf, StdSink};
+use crm_run::run;
 use gathered_sink::Gathered;
 use std::process::ExitCode;
 use std::rt::Env;

@@ -11,12 +11,12 @@ use Rattle.rdf_terms.specs.declared.terms.Code.{Code}
 use Rattle.rdf_terms.specs.declared.terms.Code.TheVariants.{L1}
 use Rattle.rdf_terms.specs.declared.terms.Refusal.{Refusal}
 use Rattle.rdf_terms.specs.declared.triples.Records.{Records}
-use Rattle.ntriples_reader.specs.Answers.{Answer, IsRefusal}
-use Rattle.ntriples_reader.specs.Answers.Answer.{Refuse, Read}
-use Rattle.ntriples_reader.specs.declared.lines.ReadRefusal.{ReadRefusal}
-use Rattle.ntriples_reader.specs.declared.lines.ReadRefusal.TheVariants as reading
-use Rattle.crm_core.specs.declared.status.ArchiveFault.{ArchiveFault}
-use Rattle.crm_core.specs.declared.status.ArchiveFault.TheVariants.{Failed, Refused, Memory}
+use Rattle.rdf_reading.specs.Answers.{Answer, IsRefusal}
+use Rattle.rdf_reading.specs.Answers.Answer.{Refuse, Read}
+use Rattle.rdf_reading.specs.declared.refusals.ReadRefusal.{ReadRefusal}
+use Rattle.rdf_reading.specs.declared.refusals.ReadRefusal.TheVariants as reading
+use Rattle.crm_core.specs.declared.faults.ArchiveFault.{ArchiveFault}
+use Rattle.crm_core.specs.declared.faults.ArchiveFault.TheVariants.{Failed, Refused, Memory}
 use Rattle.crm_core.specs.Files.{file_answer, text_answer, archived, is_ntriples, IsAnswer, AnswersBytes, Answers, IsFed, IsFedWhole, IsLong, IsTakenLong, IsOut, IsReadOut}
 
 -- nothing was fed

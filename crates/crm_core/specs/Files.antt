@@ -6,14 +6,14 @@ use Rattle.crm_outside.specs.Shelves.{Files, IsTakenTo}
 use Rattle.rdf_terms.specs.declared.terms.Code.TheVariants.{L1}
 use Rattle.rdf_terms.specs.declared.terms.Refusal.{Refusal}
 use Rattle.rdf_terms.specs.declared.triples.Records.{Records}
-use Rattle.ntriples_reader.specs.Answers.{Answer}
-use Rattle.ntriples_reader.specs.Answers.Answer.{Refuse, Read}
+use Rattle.rdf_reading.specs.Answers.{Answer}
+use Rattle.rdf_reading.specs.Answers.Answer.{Refuse, Read}
 use Rattle.ntriples_reader.specs.Feeding as ntriples
 use Rattle.turtle_reader.specs.Answers as turtle
-use Rattle.ntriples_reader.specs.declared.lines.ReadRefusal.{ReadRefusal}
-use Rattle.ntriples_reader.specs.declared.lines.ReadRefusal.TheVariants as reading
-use Rattle.crm_core.specs.declared.status.ArchiveFault.{ArchiveFault}
-use Rattle.crm_core.specs.declared.status.ArchiveFault.TheVariants.{Failed, Refused, Memory}
+use Rattle.rdf_reading.specs.declared.refusals.ReadRefusal.{ReadRefusal}
+use Rattle.rdf_reading.specs.declared.refusals.ReadRefusal.TheVariants as reading
+use Rattle.crm_core.specs.declared.faults.ArchiveFault.{ArchiveFault}
+use Rattle.crm_core.specs.declared.faults.ArchiveFault.TheVariants.{Failed, Refused, Memory}
 
 -- A name that ends with `.nt` is that of N-Triples; every other is that of Turtle.
 abbrev pub is_ntriples : List ℕ → Bool

@@ -1,5 +1,2 @@
-pub mod Explained
 pub mod Files
-pub mod Names
-pub mod Reports
-pub mod Texts
+pub mod SampleReports

@@ -1,7 +1,7 @@
 // A file fed to a reader in windows.
 ghost use Rattle.std.specs.Prelude.{◌≡◌, ℕ, ◌+◌, ◌^◌, ◌<◌, ◌≤◌, List, ◌++◌, true, length, OnOk, IfOk, IfErr, IsErrOf, is_some};
 ghost use Rattle.crm_outside.specs.Causes.{Rose};
-ghost use Rattle.ntriples_reader.specs.Answers.{Answer};
+ghost use Rattle.rdf_reading.specs.Answers.{Answer};
 ghost use Rattle.ntriples_reader.specs.Feeding as ntriples;
 ghost use Rattle.turtle_reader.specs.Reading as turtle;
 ghost use Rattle.crm_core.specs.Files.{IsFedWhole, IsTakenLong};

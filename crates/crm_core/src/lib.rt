@@ -2,27 +2,20 @@
 #![tactic(auto)]
 
 mod archive;
-mod explaining;
+mod faults;
 mod feeding;
-pub mod laws;
-mod lines;
-mod names;
-mod printing;
-mod reasoning;
-mod status;
-mod survey;
-#[cfg(test)]
-mod tests;
+mod sample;
 mod writing;
 
 pub use archive::Archive;
-pub use explaining::{is_blank_name, write_explain};
+pub use crm_certify::CertKind;
+pub use faults::ArchiveFault;
+pub use inference_reports::is_blank_name;
 pub use order_core::Primitive;
-pub use printing::print_extents;
-pub use reasoning::write_reason;
-pub use status::{ArchiveFault, ReportFault, Status};
-pub use survey::{Survey, take_survey};
+pub use report_base::laws::orders_of_records_are_a_set;
+pub use report_base::{ReportFault, Status};
+pub use sample::write_sample;
 pub use writing::{
-    build_dossier, status_of, tell_passed, told, write_check, write_convert, write_orders,
-    write_refusal,
+    write_certificate, write_check, write_convert, write_explain, write_matrix, write_orders,
+    write_reason, write_refusal, write_verdict,
 };

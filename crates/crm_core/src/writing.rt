@@ -1,139 +1,23 @@
-// The report of each command.
-ghost use Rattle.std.specs.Prelude.{◌≡◌, IfOk, IfErr};
-ghost use Rattle.triple_pool.specs.Pool.{number_from};
-ghost use Rattle.boundary_orders.specs.Dossiers.{AreFew, IsPassed};
-ghost use Rattle.crm_core.specs.Reports.{Tells, TellsPassed, Writes, check_report, convert_report, orders_report, refusal_report, passed};
-ghost use Rattle.crm_core.specs.Reports as spec;
+// What the commands write of a file that was read.
+ghost use Rattle.std.specs.Prelude.{◌≡◌, ◌≢◌, ◌≤◌, length};
+ghost use Rattle.report_base.specs.Reports.{Writes};
+ghost use Rattle.record_reports.specs.RecordReports.{check_report, convert_report, orders_report, refusal_report};
+ghost use Rattle.inference_reports.specs.Explained.{explain_report};
+ghost use Rattle.inference_reports.specs.Reasons.{reason_report};
+ghost use Rattle.crm_matrix.specs.MatrixTexts.{matrix_report};
+ghost use Rattle.crm_certify.specs.Certificates.{WritesCertificate};
+ghost use Rattle.crm_certify.specs.Verdicts.{WritesVerdict};
 
-use crate::lines::{count_refusal_line, refusal_line};
-use crate::printing::{print_check, print_dossier, print_triples};
-use crate::survey::{Survey, take_survey};
-use crate::{Archive, ReportFault, Status};
-use boundary_orders::{BuildFault, Dossier};
-use crm_outside::{PrintFault, Sink, print_text};
-use crm_type_check::Faults;
-use rdf_terms::{Records, Refusal};
+use crate::Archive;
+use crm_certify::{CertKind, report_certificate, report_verdict};
+use crm_matrix::report_matrix;
+use crm_outside::Sink;
+use inference_reports::{report_explain, report_reason};
+use order_core::Primitive;
+use rdf_terms::Refusal;
+use record_reports::{report_check, report_convert, report_orders, report_refusal};
+use report_base::{ReportFault, Status};
 use std::alloc::Global;
-
-/// The answer of a call that printed a report, by what its printing answered.
-pub fn told(printed: Result<Status, PrintFault>) -> Result<Status, ReportFault>
-    ensures { result ≡ spec.told printed }
-{
-    match printed {
-        Ok(status) => Ok(status),
-        Err(PrintFault::Failed) => Err(ReportFault::Failed),
-        Err(PrintFault::Memory) => Err(ReportFault::Memory),
-    }
-}
-
-/// `Findings` where there is a fault of class, domain, range or date, else `Done`.
-pub fn status_of(faults: &Faults) -> Status
-    ensures status { result ≡ spec.status_by faults.now }
-    ensures ending { spec.IsEnding result }
-{
-    if faults.len() == 0 {
-        Status::Done
-    } else {
-        Status::Findings
-    }
-}
-
-fn tell_refusal<W: Sink>(alloc: Global, refusal: Refusal, out: &mut W) -> Result<Status, PrintFault>
-    ensures { Tells W.written W.faults W.sure out.old out.new (refusal_report refusal) result }
-{
-    let Ok(line) = refusal_line(alloc, refusal) else {
-        return Err(PrintFault::Memory);
-    };
-    print_text(out, line.as_bytes())?;
-    Ok(Status::Refused)
-}
-
-fn tell_count<W: Sink>(alloc: Global, code: &str, n: u32, out: &mut W) -> Result<Status, PrintFault>
-    ensures { Tells W.written W.faults W.sure out.old out.new (passed code.now n) result }
-{
-    let Ok(line) = count_refusal_line(alloc, code, n) else {
-        return Err(PrintFault::Memory);
-    };
-    print_text(out, line.as_bytes())?;
-    Ok(Status::Refused)
-}
-
-/// Prints the limit that was passed, with the count that passes it: `refused L6 count N`, and likewise L7 and L8.
-pub fn tell_passed<W: Sink>(
-    alloc: Global,
-    fault: BuildFault,
-    out: &mut W,
-) -> Result<Status, PrintFault>
-    ensures { TellsPassed W.written W.faults W.sure out.old out.new fault result }
-{
-    match fault {
-        BuildFault::Extents(n) => tell_count(alloc, "L6", n, out),
-        BuildFault::Dates(n) => tell_count(alloc, "L7", n, out),
-        BuildFault::Orders(n) => tell_count(alloc, "L8", n, out),
-        BuildFault::Memory => Err(PrintFault::Memory),
-    }
-}
-
-fn tell_check<W: Sink>(alloc: Global, records: &Records, out: &mut W) -> Result<Status, PrintFault>
-    ensures { Tells W.written W.faults W.sure out.old out.new (check_report records.now) result }
-{
-    let Ok(survey) = take_survey(alloc, records) else {
-        return Err(PrintFault::Memory);
-    };
-    print_check(alloc, &records.triples, &survey.faults, out)?;
-    Ok(status_of(&survey.faults))
-}
-
-fn tell_dossier<W: Sink>(
-    alloc: Global,
-    records: &Records,
-    dossier: &Dossier,
-    out: &mut W,
-) -> Result<Status, PrintFault>
-    requires { dossier.now ≡ spec.findings_from records.now }
-    ensures { Tells W.written W.faults W.sure out.old out.new (spec.dossier_report records.now) result }
-{
-    print_dossier(alloc, &records.names, dossier, out)?;
-    Ok(Status::Done)
-}
-
-/// The extents, dates and orders of the triples without a fault, within the limits of their counts.
-pub fn build_dossier(
-    alloc: Global,
-    records: &Records,
-    survey: &Survey,
-) -> Result<Dossier, BuildFault>
-    requires pool { survey.now.pool.pairs ≡ number_from 0 records.now.triples }
-    requires faults { survey.now.faults ≡ spec.faults_in records.now }
-    ensures ok { IfOk result (λ d. d ≡ spec.findings_from records.now) }
-    ensures few { IfOk result (λ d. AreFew d) }
-    ensures err { IfErr result (λ e. IsPassed (spec.findings_from records.now) e) }
-{
-    Dossier::build(alloc, &records.names, &survey.pool, &survey.faults)
-}
-
-fn tell_orders<W: Sink>(alloc: Global, records: &Records, out: &mut W) -> Result<Status, PrintFault>
-    ensures { Tells W.written W.faults W.sure out.old out.new (orders_report records.now) result }
-{
-    let Ok(survey) = take_survey(alloc, records) else {
-        return Err(PrintFault::Memory);
-    };
-    match build_dossier(alloc, records, &survey) {
-        Ok(dossier) => tell_dossier(alloc, records, &dossier, out),
-        Err(fault) => tell_passed(alloc, fault, out),
-    }
-}
-
-fn tell_convert<W: Sink>(
-    alloc: Global,
-    records: &Records,
-    out: &mut W,
-) -> Result<Status, PrintFault>
-    ensures { Tells W.written W.faults W.sure out.old out.new (convert_report records.now) result }
-{
-    print_triples(alloc, &records.names, &records.triples, out)?;
-    Ok(Status::Done)
-}
 
 /// Prints the count of triples, the line of each fault and the count of faults.
 ///
@@ -145,7 +29,7 @@ pub fn write_check<W: Sink>(
 ) -> Result<Status, ReportFault>
     ensures { Writes W.written W.faults W.sure out.old out.new (check_report archive.now) result }
 {
-    told(tell_check(alloc, archive.records(), out))
+    report_check(alloc, archive.records(), out)
 }
 
 /// Prints the extents, the dates and the orders.
@@ -158,7 +42,7 @@ pub fn write_orders<W: Sink>(
 ) -> Result<Status, ReportFault>
     ensures { Writes W.written W.faults W.sure out.old out.new (orders_report archive.now) result }
 {
-    told(tell_orders(alloc, archive.records(), out))
+    report_orders(alloc, archive.records(), out)
 }
 
 /// Prints the triples as canonical N-Triples, in document order.
@@ -169,7 +53,7 @@ pub fn write_convert<W: Sink>(
 ) -> Result<Status, ReportFault>
     ensures { Writes W.written W.faults W.sure out.old out.new (convert_report archive.now) result }
 {
-    told(tell_convert(alloc, archive.records(), out))
+    report_convert(alloc, archive.records(), out)
 }
 
 /// Prints the code and the place of a refusal.
@@ -180,5 +64,89 @@ pub fn write_refusal<W: Sink>(
 ) -> Result<Status, ReportFault>
     ensures { Writes W.written W.faults W.sure out.old out.new (refusal_report refusal) result }
 {
-    told(tell_refusal(alloc, refusal, out))
+    report_refusal(alloc, refusal, out)
+}
+
+/// Prints the faults, the orders, and then either the cycle that no placing satisfies, or each relation of two periods
+/// that follows, with the chain that shows it, and the placings that break the others.
+///
+/// `Findings` where there is a fault or the orders are inconsistent; `Refused` as with `write_orders`.
+pub fn write_reason<W: Sink>(
+    alloc: Global,
+    archive: &Archive,
+    out: &mut W,
+) -> Result<Status, ReportFault>
+    ensures { Writes W.written W.faults W.sure out.old out.new (reason_report archive.now) result }
+{
+    report_reason(alloc, archive.records(), out)
+}
+
+/// Prints the lines of the periods that `a` and `b` name, and whether a primitive holds from the one to the other in
+/// every placing that satisfies the orders: the chain that shows it with the line of each of its orders, or the placing
+/// that breaks it.
+///
+/// A word of `_:b` and a decimal number below 2^32 without leading zero names a blank node; any other is an IRI without
+/// brackets. `Usage` where a word names no period, which is printed; `Findings` where the primitive fails or the orders
+/// are inconsistent; `Refused` as with `write_orders`.
+pub fn write_explain<W: Sink>(
+    alloc: Global,
+    archive: &Archive,
+    a: &str,
+    p: Primitive,
+    b: &str,
+    out: &mut W,
+) -> Result<Status, ReportFault>
+    requires { a.now ≢ b.now }
+    ensures { Writes W.written W.faults W.sure out.old out.new (explain_report archive.now a.now p b.now) result }
+{
+    report_explain(alloc, archive.records(), a, p, b, out)
+}
+
+/// Prints the extents, the units that periods produced, and then either the cycle that no placing satisfies, or the
+/// Harris matrix: the cells of the periods with their levels, and the covers between them.
+///
+/// `Findings` where the orders are inconsistent; `Refused` as with `write_orders`.
+pub fn write_matrix<W: Sink>(
+    alloc: Global,
+    archive: &Archive,
+    out: &mut W,
+) -> Result<Status, ReportFault>
+    ensures { Writes W.written W.faults W.sure out.old out.new (matrix_report archive.now) result }
+{
+    report_matrix(alloc, archive.records(), out)
+}
+
+/// Prints a certificate of what the records say.
+///
+/// One of orders has version 2; those of classes and of a matrix have version 1. `Findings` where the orders are
+/// inconsistent and the certificate is of orders, which then shows their first cycle, or of a matrix, in place of
+/// which `inconsistent` and the cycle are printed. `Refused` where a certificate is longer than 67,108,864 bytes, with
+/// its length, and for orders and a matrix as with `write_orders`.
+pub fn write_certificate<W: Sink>(
+    alloc: Global,
+    archive: &Archive,
+    kind: CertKind,
+    out: &mut W,
+) -> Result<Status, ReportFault>
+    ensures { WritesCertificate W.written W.faults W.sure out.old out.new archive.now kind result }
+{
+    report_certificate(alloc, archive.records(), kind, out)
+}
+
+/// Prints whether a certificate fits the records: `verified consistent`, `verified inconsistent`, `verified classes`
+/// or `verified matrix`, or `refused certificate CODE at PLACE`.
+///
+/// `Findings` exactly where it is accepted and holds a cycle. `Refused`, with the limit, where the records have too many
+/// extents, dates or orders; this is judged first, also for certificates of classes. Then a certificate that is no
+/// UTF-8 is refused with U1, and each other by its first fault, K1 to K6.
+pub fn write_verdict<W: Sink>(
+    alloc: Global,
+    archive: &Archive,
+    cert: &[u8],
+    out: &mut W,
+) -> Result<Status, ReportFault>
+    requires { length cert.now ≤ 67108864 }
+    ensures { WritesVerdict W.written W.faults W.sure out.old out.new archive.now cert.now result }
+{
+    report_verdict(alloc, archive.records(), cert, out)
 }

@@ -1,4 +1,3 @@
 mod Appended
-mod SampleFiles
 mod Matrices
 mod MatrixLevels

@@ -25,11 +25,12 @@ use Rattle.harris_matrix.specs.Cells.{members}
 use Rattle.harris_matrix.specs.Covers.{all_covers}
 use Rattle.harris_matrix.specs.Matrices.{Cells, least_of, is_before}
 use Rattle.boundary_orders.specs.Dossiers.{Findings}
-use Rattle.reason_report.specs.Reason.{cycle_of, text_by, period_text}
-use Rattle.crm_core.specs.declared.status.Status.{Status}
-use Rattle.crm_core.specs.declared.status.Status.TheVariants.{Done, Findings as HasFindings}
-use Rattle.crm_core.specs.Texts.{extents_text}
-use Rattle.crm_core.specs.Reports.{Report, findings_from, within_limits}
+use Rattle.order_analysis.specs.Subjects.{cycle_of}
+use Rattle.reason_report.specs.Reason.{text_by, period_text}
+use Rattle.report_base.specs.declared.status.Status.{Status}
+use Rattle.report_base.specs.declared.status.Status.TheVariants.{Done, Findings as HasFindings}
+use Rattle.report_base.specs.Texts.{extents_text}
+use Rattle.report_base.specs.Reports.{Report, findings_from, within_limits}
 
 -- one more than the greatest height among the first cells that pass the test, or 0 where none does
 abbrev pub above : ℕ → (ℕ → Bool) → (ℕ → ℕ) → ℕ
@@ -124,11 +125,14 @@ matrix_text names triples found =
 abbrev pub status_of : Bool → Status
 status_of consistent = if consistent then Done else HasFindings
 
-abbrev pub matrix_found : Records → Report
-matrix_found r = record {
-  status = status_of (is_none (cycle_of (findings_from r).orders));
-  text = matrix_text r.names r.triples (findings_from r);
+abbrev pub matrix_of_found : NameLists → List Triple → Findings → Report
+matrix_of_found names triples found = record {
+  status = status_of (is_none (cycle_of found.orders));
+  text = matrix_text names triples found;
 }
+
+abbrev pub matrix_found : Records → Report
+matrix_found r = matrix_of_found r.names r.triples (findings_from r)
 
 -- what is printed of the matrix of records, within the limits
 abbrev pub matrix_report : Records → Report

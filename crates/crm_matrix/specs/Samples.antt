@@ -1,22 +1,19 @@
 -- The sample: records made from a number, and what is printed of them.
-use Rattle.std.specs.Prelude.{zero, suc, ℕ, ◌+◌, ◌%◌, true, ◌==◌, ◌∷◌, ◌++◌, max, nat_lt, None, is_none, if◌then◌else◌, List, [], length, codes}
+use Rattle.std.specs.Prelude.{zero, suc, ℕ, ◌+◌, ◌%◌, ◌==◌, ◌∷◌, ◌++◌, max, nat_lt, is_none, if◌then◌else◌, List, [], length, codes}
 use Rattle.std.specs.List.{flat_map, fold}
 use Rattle.std.specs.Fmt.{decimal}
 use Rattle.rdf_terms.specs.declared.terms.Triple.{Triple}
 use Rattle.rdf_terms.specs.declared.triples.Records.{Records}
-use Rattle.crm_outside.specs.Memory.{ShelfState}
-use Rattle.ntriples_reader.specs.Answers.{Answer}
-use Rattle.ntriples_reader.specs.Answers.Answer.{Refuse, Read}
 use Rattle.crm_type_check.specs.declared.Fault.{Fault}
 use Rattle.order_core.specs.Sets.{Orders}
 use Rattle.order_texts.specs.Texts.{count_line}
 use Rattle.harris_matrix.specs.declared.cells.Cell.{Cell}
 use Rattle.harris_matrix.specs.Matrices.{Cells}
 use Rattle.boundary_orders.specs.Dossiers.{Findings}
-use Rattle.reason_report.specs.Reason.{cycle_of, text_by}
+use Rattle.order_analysis.specs.Subjects.{cycle_of}
+use Rattle.reason_report.specs.Reason.{text_by}
 use Rattle.reason_report.specs.Relations.{relations_of, count_primitives}
-use Rattle.crm_core.specs.Files.{file_answer}
-use Rattle.crm_core.specs.Reports.{Report, faults_in, findings_from, within_limits, refusal_report}
+use Rattle.report_base.specs.Reports.{Report, faults_in, findings_from, within_limits}
 use Rattle.crm_matrix.specs.MatrixTexts.{matrix_of, status_of}
 
 -- the IRI of a context
@@ -66,16 +63,6 @@ first_contexts n (suc i) = first_contexts n i ++ context_lines n i
 unfoldable pub sample_file : ℕ → List ℕ
 sample_file n = first_contexts n n
 
--- a shelf with one file
-abbrev pub shelf_with : List ℕ → ShelfState
-shelf_with bytes = record {
-  files = record { name = codes "sample.nt"; bytes = bytes } ∷ [];
-  fails = [];
-  calls = 0;
-  left = None;
-  faults = 0;
-}
-
 -- one more than the greatest level
 abbrev pub count_levels : List Cell → ℕ
 count_levels cells = fold (λ count cell. max count (cell.level + 1)) 0 cells
@@ -109,23 +96,18 @@ following_text set periods = matrix_counts (count_primitives (relations_of set.l
 abbrev pub counts_or_cycle : Orders → List ℕ → List ℕ
 counts_or_cycle set periods = text_by (cycle_of set) (following_text set periods)
 
-abbrev pub sample_text : ℕ → List Triple → List Fault → Findings → List ℕ
-sample_text n triples faults found = counts_text n triples faults found.orders ++ counts_or_cycle found.orders found.periods
+abbrev pub sample_text : ℕ → List Triple → List Fault → Orders → List ℕ → List ℕ
+sample_text n triples faults set periods = counts_text n triples faults set ++ counts_or_cycle set periods
 
-abbrev pub sample_found : ℕ → Records → Report
-sample_found n r = record {
-  status = status_of (is_none (cycle_of (findings_from r).orders));
-  text = sample_text n r.triples (faults_in r) (findings_from r);
+abbrev pub counts_report : ℕ → List Triple → List Fault → Findings → Report
+counts_report n triples faults found = record {
+  status = status_of (is_none (cycle_of found.orders));
+  text = sample_text n triples faults found.orders found.periods;
 }
 
+abbrev pub sample_found : ℕ → Records → Report
+sample_found n r = counts_report n r.triples (faults_in r) (findings_from r)
+
+-- what is printed of the records of a sample, within the limits
 abbrev pub records_report : ℕ → Records → Report
 records_report n r = within_limits (findings_from r) (sample_found n r)
-
--- by the answer to the file
-abbrev pub answer_report : ℕ → Answer → Report
-answer_report n (Refuse code at) = refusal_report (record { code = code; at = at })
-answer_report n (Read r) = records_report n r
-
--- what is printed of the sample of n contexts
-abbrev pub sample_report : ℕ → Report
-sample_report n = answer_report n (file_answer true None (sample_file n))

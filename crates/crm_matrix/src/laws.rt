@@ -3,7 +3,7 @@ ghost use Rattle.std.specs.Prelude.{ℕ, ℤ, List};
 ghost use Rattle.order_laws.specs.declared.Order.{Order};
 ghost use Rattle.order_laws.specs.Chains.{HasCycle};
 ghost use Rattle.order_laws.specs.Tables.{IsOrderSet};
-ghost use Rattle.harris_matrix.specs.Cells.{AreExtents};
+ghost use Rattle.order_core.specs.Sets.{AreExtents};
 ghost use Rattle.harris_matrix.specs.Matrices.{IsMatrixOf};
 ghost use Rattle.crm_matrix.specs.MatrixTexts.{matrix_of};
 

@@ -1,4 +1,4 @@
-//! The Harris matrix of the periods of a file, and samples of a given size: what the commands `matrix` and `sample` print.
+//! What the command `matrix` prints of records, their Harris matrix, and what `sample` prints of records of a given size.
 #![tactic(auto)]
 
 pub mod laws;
@@ -7,8 +7,7 @@ mod matrix_report;
 mod sample_counts;
 mod sample_report;
 mod sampling;
-#[cfg(test)]
-mod tests;
 
-pub use matrix_report::write_matrix;
-pub use sample_report::write_sample;
+pub use matrix_report::report_matrix;
+pub use sample_report::report_sample;
+pub use sampling::sample_file;

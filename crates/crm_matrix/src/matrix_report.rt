@@ -1,28 +1,27 @@
 // The report of the Harris matrix.
 ghost use Rattle.std.specs.Prelude.{◌≡◌, ◌≤◌, ◌^◌, length, true, IfOk, is_none};
 ghost use Rattle.order_laws.specs.Chains.{HasCycle};
+ghost use Rattle.order_core.specs.Sets.{AreExtents};
 ghost use Rattle.order_closure.specs.Closures.{IsClosureOf};
-ghost use Rattle.harris_matrix.specs.Cells.{AreExtents};
+ghost use Rattle.order_analysis.specs.Subjects.{cycle_of};
 ghost use Rattle.crm_outside.specs.Printing.{Prints, lines_from};
-ghost use Rattle.reason_report.specs.Reason.{cycle_of};
-ghost use Rattle.crm_core.specs.Reports.{Tells, Writes, IsEnding};
-ghost use Rattle.crm_matrix.specs.MatrixTexts.{matrix_report};
+ghost use Rattle.report_base.specs.Reports.{IsEnding, Writes};
+ghost use Rattle.crm_matrix.specs.MatrixTexts.{matrix_of_found, matrix_report};
 ghost use Rattle.crm_matrix.specs.MatrixTexts as spec;
 
 use crate::lines::{append_cell, append_cover, append_unit};
 use boundary_orders::Dossier;
-use chain_certificate::cycle;
-use crm_core::{
-    Archive, ReportFault, Status, build_dossier, print_extents, take_survey, tell_passed, told,
-};
 use crm_outside::{Numbers, PrintFault, Sink, print_text};
+use dossier_analysis::analyse;
 use harris_matrix::laws::cells_are_strictly_ordered;
 use harris_matrix::{Cell, CellList, CellPair, Matrix, PairList};
-use order_closure::{Closure, Edges};
+use order_analysis::Analysis;
+use order_closure::Closure;
 use order_core::OrderSet;
 use order_texts::print_count;
 use rdf_terms::{Names, Records, Triple, Triples};
 use reason_report::print_inconsistent;
+use report_base::{ReportFault, Status, print_extents, take_survey, tell_passed};
 use std::alloc::{AllocError, Global};
 
 fn print_cell<W: Sink>(
@@ -138,8 +137,8 @@ fn print_units<W: Sink>(
     Ok(())
 }
 
-/// The matrix of ascending periods over consistent orders and their closure.
-pub(crate) fn build_matrix(
+// The matrix of ascending periods over consistent orders and their closure.
+fn build_matrix(
     alloc: Global,
     set: &OrderSet,
     closure: &Closure,
@@ -157,6 +156,20 @@ pub(crate) fn build_matrix(
     Ok(matrix)
 }
 
+/// The matrix of the periods over orders that are consistent.
+pub(crate) fn matrix_over(analysis: &Analysis) -> Result<Matrix, AllocError>
+    requires consistent { ¬ HasCycle analysis.now.set.list }
+    requires few { length analysis.now.periods ≤ 2 ^ 16 }
+    ensures { IfOk result (λ m. m ≡ spec.matrix_of analysis.now.set.list analysis.now.periods) }
+{
+    build_matrix(
+        analysis.alloc(),
+        analysis.set(),
+        analysis.closure(),
+        analysis.periods(),
+    )
+}
+
 fn print_matrix<W: Sink>(matrix: &Matrix, line: &mut Vec<u8>, out: &mut W) -> Result<(), PrintFault>
     ensures { Prints W.written W.faults W.sure out.old out.new (spec.cells_text matrix.now) result }
 {
@@ -166,21 +179,16 @@ fn print_matrix<W: Sink>(matrix: &Matrix, line: &mut Vec<u8>, out: &mut W) -> Re
 
 // Answers that the orders are consistent.
 fn print_consistent<W: Sink>(
-    alloc: Global,
-    set: &OrderSet,
-    closure: &Closure,
-    periods: &Numbers,
+    analysis: &Analysis,
     line: &mut Vec<u8>,
     out: &mut W,
 ) -> Result<bool, PrintFault>
-    requires closure { IsClosureOf set.now closure.now }
-    requires consistent { ¬ HasCycle set.now.list }
-    requires periods { AreExtents set.now.extents periods.now }
-    requires few { length periods.now ≤ 2 ^ 16 }
-    ensures prints { Prints W.written W.faults W.sure out.old out.new (spec.cells_text (spec.matrix_of set.now.list periods.now)) result }
+    requires consistent { ¬ HasCycle analysis.now.set.list }
+    requires few { length analysis.now.periods ≤ 2 ^ 16 }
+    ensures prints { Prints W.written W.faults W.sure out.old out.new (spec.cells_text (spec.matrix_of analysis.now.set.list analysis.now.periods)) result }
     ensures answer { IfOk result (λ consistent. consistent ≡ true) }
 {
-    let Ok(matrix) = build_matrix(alloc, set, closure, periods) else {
+    let Ok(matrix) = matrix_over(analysis) else {
         return Err(PrintFault::Memory);
     };
     print_matrix(&matrix, line, out)?;
@@ -188,48 +196,36 @@ fn print_consistent<W: Sink>(
 }
 
 // Prints the matrix of consistent orders, or else their first cycle, and answers whether they are consistent.
-fn print_cells_or_cycle<W: Sink>(
-    alloc: Global,
-    set: &OrderSet,
-    periods: &Numbers,
-    out: &mut W,
-) -> Result<bool, PrintFault>
-    requires periods { AreExtents set.now.extents periods.now }
-    requires few { length periods.now ≤ 2 ^ 16 }
-    ensures prints { Prints W.written W.faults W.sure out.old out.new (spec.cells_or_cycle set.now periods.now) result }
-    ensures answer { IfOk result (λ consistent. consistent ≡ is_none (cycle_of set.now)) }
+fn print_cells_or_cycle<W: Sink>(analysis: &Analysis, out: &mut W) -> Result<bool, PrintFault>
+    requires { length analysis.now.periods ≤ 2 ^ 16 }
+    ensures prints { Prints W.written W.faults W.sure out.old out.new (spec.cells_or_cycle analysis.now.set analysis.now.periods) result }
+    ensures answer { IfOk result (λ consistent. consistent ≡ is_none (cycle_of analysis.now.set)) }
 {
-    let Ok(edges) = Edges::build(alloc, set) else {
-        return Err(PrintFault::Memory);
+    let mut line = Vec::new(analysis.alloc());
+    let Some(chain) = analysis.cycle() else {
+        return print_consistent(analysis, &mut line, out);
     };
-    let Ok(closure) = Closure::build(alloc, set) else {
-        return Err(PrintFault::Memory);
-    };
-    let Ok(found) = cycle(alloc, set, &edges, &closure) else {
-        return Err(PrintFault::Memory);
-    };
-    let mut line = Vec::new(alloc);
-    let Some(chain) = found else {
-        return print_consistent(alloc, set, &closure, periods, &mut line, out);
-    };
-    print_inconsistent(&chain, &mut line, out)?;
+    print_inconsistent(chain, &mut line, out)?;
     Ok(false)
 }
 
 fn print_found<W: Sink>(
-    alloc: Global,
     records: &Records,
     dossier: &Dossier,
+    analysis: &Analysis,
     out: &mut W,
 ) -> Result<bool, PrintFault>
+    requires analysis { analysis.now ≡ record { set = dossier.now.orders; periods = dossier.now.periods } }
+    requires few { length analysis.now.periods ≤ 2 ^ 16 }
     ensures prints { Prints W.written W.faults W.sure out.old out.new (spec.matrix_text records.now.names records.now.triples dossier.now) result }
     ensures answer { IfOk result (λ consistent. consistent ≡ is_none (cycle_of dossier.now.orders)) }
 {
     dossier.conditions();
+    let alloc = analysis.alloc();
     print_extents(alloc, &records.names, dossier, out)?;
     let mut line = Vec::new(alloc);
     print_units(&records.names, dossier, &records.triples, &mut line, out)?;
-    print_cells_or_cycle(alloc, dossier.orders(), dossier.periods(), out)
+    print_cells_or_cycle(analysis, out)
 }
 
 /// `Findings` where the orders are inconsistent, else `Done`.
@@ -249,37 +245,28 @@ fn tell_found<W: Sink>(
     records: &Records,
     dossier: &Dossier,
     out: &mut W,
-) -> Result<Status, PrintFault>
-    ensures { Tells W.written W.faults W.sure out.old out.new
-        (record { status = spec.status_of (is_none (cycle_of dossier.now.orders)); text = spec.matrix_text records.now.names records.now.triples dossier.now })
-        result }
+) -> Result<Status, ReportFault>
+    ensures { Writes W.written W.faults W.sure out.old out.new (matrix_of_found records.now.names records.now.triples dossier.now) result }
 {
-    let consistent = print_found(alloc, records, dossier, out)?;
+    let analysis = analyse(alloc, dossier)?;
+    let consistent = print_found(records, dossier, &analysis, out)?;
     Ok(matrix_status(consistent))
-}
-
-fn tell_matrix<W: Sink>(alloc: Global, records: &Records, out: &mut W) -> Result<Status, PrintFault>
-    ensures { Tells W.written W.faults W.sure out.old out.new (matrix_report records.now) result }
-{
-    let Ok(survey) = take_survey(alloc, records) else {
-        return Err(PrintFault::Memory);
-    };
-    match build_dossier(alloc, records, &survey) {
-        Ok(dossier) => tell_found(alloc, records, &dossier, out),
-        Err(fault) => tell_passed(alloc, fault, out),
-    }
 }
 
 /// Prints the extents, the units that periods produced, and then either the cycle that no placing satisfies, or the
 /// Harris matrix: the cells of the periods with their levels, and the covers between them.
 ///
-/// `Findings` where the orders are inconsistent; `Refused` as with `write_orders`.
-pub fn write_matrix<W: Sink>(
+/// `Findings` where the orders are inconsistent; `Refused`, with the code and the count, where there are more than 2,048
+/// extents, 2,048 dates or 65,536 orders.
+pub fn report_matrix<W: Sink>(
     alloc: Global,
-    archive: &Archive,
+    records: &Records,
     out: &mut W,
 ) -> Result<Status, ReportFault>
-    ensures { Writes W.written W.faults W.sure out.old out.new (matrix_report archive.now) result }
+    ensures { Writes W.written W.faults W.sure out.old out.new (matrix_report records.now) result }
 {
-    told(tell_matrix(alloc, archive.records(), out))
+    match take_survey(alloc, records) {
+        Ok(survey) => tell_found(alloc, records, &survey.dossier, out),
+        Err(fault) => tell_passed(alloc, fault, out),
+    }
 }

@@ -1,64 +1,25 @@
 // The report of a sample.
-ghost use Rattle.std.specs.Prelude.{◌≡◌, ◌++◌, ◌≤◌, ◌<◌, ◌^◌, true, None, length, IfOk, OnOk, IsErrOf, is_none};
+ghost use Rattle.std.specs.Prelude.{◌≡◌, ◌++◌, ◌≤◌, ◌^◌, true, length, IfOk, OnOk, is_none};
 ghost use Rattle.order_laws.specs.Chains.{HasCycle};
-ghost use Rattle.order_closure.specs.Closures.{IsClosureOf};
-ghost use Rattle.harris_matrix.specs.Cells.{AreExtents};
+ghost use Rattle.order_analysis.specs.Subjects.{cycle_of};
 ghost use Rattle.crm_outside.specs.Printing.{Prints};
-ghost use Rattle.reason_report.specs.Reason.{cycle_of};
-ghost use Rattle.crm_core.specs.Files.{IsAnswer, file_answer};
-ghost use Rattle.crm_core.specs.Reports.{Tells, Writes};
-ghost use Rattle.crm_matrix.specs.MatrixTexts.{status_of};
-ghost use Rattle.crm_matrix.specs.Samples.{sample_report, sample_file as sample_bytes};
+ghost use Rattle.report_base.specs.Reports.{Writes};
+ghost use Rattle.crm_matrix.specs.Samples.{counts_report, records_report};
 ghost use Rattle.crm_matrix.specs.Samples as spec;
 
-use crate::matrix_report::{build_matrix, matrix_status};
-use crate::sample_counts::{count_levels, count_relations};
-use crate::sampling::sample_file;
-use boundary_orders::Dossier;
-use chain_certificate::cycle;
-use crm_core::{
-    Archive, ArchiveFault, ReportFault, Status, build_dossier, take_survey, tell_passed, told,
-    write_refusal,
-};
-use crm_outside::{
-    Bytes, FileEntry, FileList, MemShelf, Numbers, PrintFault, Sink, Text, print_text,
-};
+use crate::matrix_report::{matrix_over, matrix_status};
+use crate::sample_counts::count_levels;
+use crm_outside::{PrintFault, Sink, print_text};
 use crm_type_check::Faults;
+use dossier_analysis::analyse;
 use harris_matrix::Matrix;
-use order_closure::{Closure, Edges};
+use order_analysis::Analysis;
 use order_core::OrderSet;
 use order_texts::append_count;
 use rdf_terms::{Records, Triples};
-use reason_report::print_inconsistent;
+use reason_report::{count_relations, print_inconsistent};
+use report_base::{ReportFault, Status, Survey, take_survey, tell_passed};
 use std::alloc::{AllocError, Global};
-
-const NAME: &str = "sample.nt";
-
-// A shelf with one file, none of whose calls fails.
-fn shelf_of(alloc: Global, bytes: Vec<u8>) -> Result<MemShelf, AllocError>
-    ensures { IfOk result (λ s. s ≡ spec.shelf_with bytes.items) }
-{
-    let mut files = FileList::new(alloc);
-    files.push(FileEntry {
-        name: Text::from_str(alloc, NAME)?,
-        bytes: Bytes::from_vec(bytes),
-    })?;
-    Ok(MemShelf::new(files, Numbers::new(alloc)))
-}
-
-// Makes the sample and reads it as a file is read.
-fn read_sample(alloc: Global, n: u32) -> Result<Archive, ArchiveFault>
-    ensures told { IsAnswer result (file_answer true None (sample_bytes n)) }
-    ensures failed { IsErrOf result ArchiveFault.Failed → ⊥ }
-{
-    let Ok(bytes) = sample_file(alloc, n) else {
-        return Err(ArchiveFault::Memory);
-    };
-    let Ok(mut shelf) = shelf_of(alloc, bytes) else {
-        return Err(ArchiveFault::Memory);
-    };
-    Archive::read(alloc, &mut shelf, NAME, None)
-}
 
 #[tactic(auto, unfolding(crate::specs::Samples::record_counts))]
 fn append_record_counts(
@@ -119,42 +80,29 @@ fn append_matrix_counts(
     Ok(())
 }
 
-fn append_following(
-    alloc: Global,
-    set: &OrderSet,
-    closure: &Closure,
-    periods: &Numbers,
-    text: &mut Vec<u8>,
-) -> Result<(), AllocError>
-    requires closure { IsClosureOf set.now closure.now }
-    requires consistent { ¬ HasCycle set.now.list }
-    requires periods { AreExtents set.now.extents periods.now }
-    requires few { length periods.now ≤ 2 ^ 16 }
-    ensures { OnOk result (text.new.items ≡ text.old.items ++ spec.following_text set.now periods.now) }
+fn append_following(analysis: &Analysis, text: &mut Vec<u8>) -> Result<(), AllocError>
+    requires consistent { ¬ HasCycle analysis.now.set.list }
+    requires few { length analysis.now.periods ≤ 2 ^ 16 }
+    ensures { OnOk result (text.new.items ≡ text.old.items ++ spec.following_text analysis.now.set analysis.now.periods) }
 {
-    let relations = count_relations(set, closure, periods.as_slice());
-    let matrix = build_matrix(alloc, set, closure, periods)?;
+    let relations = count_relations(analysis);
+    let matrix = matrix_over(analysis)?;
     append_matrix_counts(relations, &matrix, text)
 }
 
 // Answers that the orders are consistent.
 fn print_consistent<W: Sink>(
-    alloc: Global,
-    set: &OrderSet,
-    closure: &Closure,
-    periods: &Numbers,
+    analysis: &Analysis,
     text: &mut Vec<u8>,
     out: &mut W,
 ) -> Result<bool, PrintFault>
-    requires closure { IsClosureOf set.now closure.now }
-    requires consistent { ¬ HasCycle set.now.list }
-    requires periods { AreExtents set.now.extents periods.now }
-    requires few { length periods.now ≤ 2 ^ 16 }
-    ensures prints { Prints W.written W.faults W.sure out.old out.new (spec.following_text set.now periods.now) result }
+    requires consistent { ¬ HasCycle analysis.now.set.list }
+    requires few { length analysis.now.periods ≤ 2 ^ 16 }
+    ensures prints { Prints W.written W.faults W.sure out.old out.new (spec.following_text analysis.now.set analysis.now.periods) result }
     ensures answer { IfOk result (λ consistent. consistent ≡ true) }
 {
     text.clear();
-    let Ok(()) = append_following(alloc, set, closure, periods, text) else {
+    let Ok(()) = append_following(analysis, text) else {
         return Err(PrintFault::Memory);
     };
     print_text(out, text.as_slice())?;
@@ -162,31 +110,16 @@ fn print_consistent<W: Sink>(
 }
 
 // Prints what follows from consistent orders in counts, or else their first cycle, and answers whether they are consistent.
-fn print_counts_or_cycle<W: Sink>(
-    alloc: Global,
-    set: &OrderSet,
-    periods: &Numbers,
-    out: &mut W,
-) -> Result<bool, PrintFault>
-    requires periods { AreExtents set.now.extents periods.now }
-    requires few { length periods.now ≤ 2 ^ 16 }
-    ensures prints { Prints W.written W.faults W.sure out.old out.new (spec.counts_or_cycle set.now periods.now) result }
-    ensures answer { IfOk result (λ consistent. consistent ≡ is_none (cycle_of set.now)) }
+fn print_counts_or_cycle<W: Sink>(analysis: &Analysis, out: &mut W) -> Result<bool, PrintFault>
+    requires { length analysis.now.periods ≤ 2 ^ 16 }
+    ensures prints { Prints W.written W.faults W.sure out.old out.new (spec.counts_or_cycle analysis.now.set analysis.now.periods) result }
+    ensures answer { IfOk result (λ consistent. consistent ≡ is_none (cycle_of analysis.now.set)) }
 {
-    let Ok(edges) = Edges::build(alloc, set) else {
-        return Err(PrintFault::Memory);
+    let mut text = Vec::new(analysis.alloc());
+    let Some(chain) = analysis.cycle() else {
+        return print_consistent(analysis, &mut text, out);
     };
-    let Ok(closure) = Closure::build(alloc, set) else {
-        return Err(PrintFault::Memory);
-    };
-    let Ok(found) = cycle(alloc, set, &edges, &closure) else {
-        return Err(PrintFault::Memory);
-    };
-    let mut text = Vec::new(alloc);
-    let Some(chain) = found else {
-        return print_consistent(alloc, set, &closure, periods, &mut text, out);
-    };
-    print_inconsistent(&chain, &mut text, out)?;
+    print_inconsistent(chain, &mut text, out)?;
     Ok(false)
 }
 
@@ -208,65 +141,45 @@ fn print_counts<W: Sink>(
 }
 
 fn print_sample<W: Sink>(
-    alloc: Global,
     n: u32,
     triples: &Triples,
     faults: &Faults,
-    dossier: &Dossier,
+    analysis: &Analysis,
     out: &mut W,
 ) -> Result<bool, PrintFault>
-    ensures prints { Prints W.written W.faults W.sure out.old out.new (spec.sample_text n triples.now faults.now dossier.now) result }
-    ensures answer { IfOk result (λ consistent. consistent ≡ is_none (cycle_of dossier.now.orders)) }
+    requires { length analysis.now.periods ≤ 2 ^ 16 }
+    ensures prints { Prints W.written W.faults W.sure out.old out.new (spec.sample_text n triples.now faults.now analysis.now.set analysis.now.periods) result }
+    ensures answer { IfOk result (λ consistent. consistent ≡ is_none (cycle_of analysis.now.set)) }
 {
-    dossier.conditions();
-    let set = dossier.orders();
-    print_counts(alloc, n, triples, faults, set, out)?;
-    print_counts_or_cycle(alloc, set, dossier.periods(), out)
+    print_counts(analysis.alloc(), n, triples, faults, analysis.set(), out)?;
+    print_counts_or_cycle(analysis, out)
 }
 
 fn tell_found<W: Sink>(
     alloc: Global,
     n: u32,
-    records: &Records,
-    faults: &Faults,
-    dossier: &Dossier,
+    triples: &Triples,
+    survey: &Survey,
     out: &mut W,
-) -> Result<Status, PrintFault>
-    ensures { Tells W.written W.faults W.sure out.old out.new
-        (record { status = status_of (is_none (cycle_of dossier.now.orders)); text = spec.sample_text n records.now.triples faults.now dossier.now })
-        result }
+) -> Result<Status, ReportFault>
+    ensures { Writes W.written W.faults W.sure out.old out.new (counts_report n triples.now survey.now.faults survey.now.dossier) result }
 {
-    let consistent = print_sample(alloc, n, &records.triples, faults, dossier, out)?;
+    let analysis = analyse(alloc, &survey.dossier)?;
+    let consistent = print_sample(n, triples, &survey.faults, &analysis, out)?;
     Ok(matrix_status(consistent))
 }
 
-fn tell_sample<W: Sink>(
+/// Prints counts of what the records of a sample of n contexts say and of what follows from them.
+pub fn report_sample<W: Sink>(
     alloc: Global,
     n: u32,
     records: &Records,
     out: &mut W,
-) -> Result<Status, PrintFault>
-    ensures { Tells W.written W.faults W.sure out.old out.new (spec.records_report n records.now) result }
+) -> Result<Status, ReportFault>
+    ensures { Writes W.written W.faults W.sure out.old out.new (records_report n records.now) result }
 {
-    let Ok(survey) = take_survey(alloc, records) else {
-        return Err(PrintFault::Memory);
-    };
-    match build_dossier(alloc, records, &survey) {
-        Ok(dossier) => tell_found(alloc, n, records, &survey.faults, &dossier, out),
+    match take_survey(alloc, records) {
+        Ok(survey) => tell_found(alloc, n, &records.triples, &survey, out),
         Err(fault) => tell_passed(alloc, fault, out),
-    }
-}
-
-/// Makes the records of n contexts, reads them as a file, and prints counts of what they say and of what follows.
-///
-/// The contexts are in four rows: each is before those that stand four to seven behind it; every fortieth is dated.
-pub fn write_sample<W: Sink>(alloc: Global, n: u32, out: &mut W) -> Result<Status, ReportFault>
-    ensures { Writes W.written W.faults W.sure out.old out.new (sample_report n) result }
-{
-    match read_sample(alloc, n) {
-        Ok(archive) => told(tell_sample(alloc, n, archive.records(), out)),
-        Err(ArchiveFault::Refused(refusal)) => write_refusal(alloc, refusal, out),
-        Err(ArchiveFault::Failed) => unreachable!(),
-        Err(ArchiveFault::Memory) => Err(ReportFault::Memory),
     }
 }

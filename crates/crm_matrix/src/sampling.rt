@@ -120,7 +120,7 @@ fn append_context_lines(n: u32, i: u32, text: &mut Vec<u8>) -> Result<(), AllocE
 
 /// The sample of n contexts: each of them is before those that stand four to seven behind it, and every fortieth is dated.
 #[tactic(auto, unfolding(crate::specs::Samples::sample_file))]
-pub(crate) fn sample_file(alloc: Global, n: u32) -> Result<Vec<u8>, AllocError>
+pub fn sample_file(alloc: Global, n: u32) -> Result<Vec<u8>, AllocError>
     ensures { IfOk result (λ text. text.items ≡ spec.sample_file n) }
 {
     let mut text = Vec::new(alloc);

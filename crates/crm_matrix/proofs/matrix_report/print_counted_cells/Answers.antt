@@ -1,5 +1,5 @@
 use Rattle.std.proofs.lemmas.Result.{err_from_is_err_and}
-use Rattle.crm_core.proofs.Counted.{broken_count, counted_lines}
+use Rattle.report_base.proofs.Counted.{broken_count, counted_lines}
 use Rattle.crm_matrix.proofs.matrix_report.print_counted_cells.Goals as goal
 
 pub returns-in_err-print_count : goal.returns-in_err-print_count

@@ -1,8 +1,0 @@
-use Rattle.crm_cli.proofs.Truths.{true_reason}
-use Rattle.crm_cli.proofs.laws.reports_are_true.Goals as goal
-
-pub returns : goal.returns
-returns c = λ set periods front conditions range.
-    true_reason c.reports_are_consistent_where_some_placing_satisfies.ensures c.listed_primitives_always_hold.ensures c.listed_relations_have_their_chains.ensures
-    c.answers_hold_where_every_placing_does.ensures.holds c.answers_hold_where_every_placing_does.ensures.satisfied c.answers_hold_where_every_placing_does.ensures.broken
-    set conditions periods front range

@@ -1,5 +1,0 @@
-use Rattle.crm_core.proofs.Naming.{usage_of, of_usage}
-use Rattle.crm_core.proofs.laws.explanations_are_usage_where_no_period_is_named.Goals as goal
-
-pub returns : goal.returns
-returns c = λ r a p b. (usage_of r a p b, of_usage r a p b)

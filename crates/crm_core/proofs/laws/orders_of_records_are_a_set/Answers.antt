@@ -1,8 +1,0 @@
-use Rattle.crm_core.proofs.OrderSets.{order_set, periods_are_extents}
-use Rattle.crm_core.proofs.laws.orders_of_records_are_a_set.Goals as goal
-
-pub returns-clause-orders : goal.returns-clause-orders
-returns-clause-orders c = order_set
-
-pub returns-clause-periods : goal.returns-clause-periods
-returns-clause-periods c = periods_are_extents

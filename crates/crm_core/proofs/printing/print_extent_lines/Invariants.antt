@@ -1,7 +1,0 @@
-use Rattle.std.proofs.Common.{take}
-use Rattle.crm_outside.specs.Printing.{Printed, lines_from}
-use Rattle.crm_core.specs.Texts.{extent_line}
-use Rattle.crm_core.proofs.printing.print_extent_lines.Given as goal
-
-abbrev pub invariant-loop-k : goal.invariant-loop-k
-invariant-loop-k g l = Printed g.W.Sink.written g.W.Sink.faults g.W.Sink.sure l.fn.out l.out (lines_from (extent_line l.names) 0 (take l.k l.dossier.extents))

@@ -1,0 +1,9 @@
+use Rattle.std.proofs.Common.{subst}
+use Rattle.rdf_terms.specs.declared.triples.Records.{Records}
+use Rattle.report_base.specs.Reports.{Writes}
+use Rattle.inference_reports.specs.Reasons.{reason_report}
+use Rattle.crm_core.proofs.writing.write_reason.Goals as goal
+
+pub returns : goal.returns
+returns g c =
+    subst (λ (r : Records). Writes g.W.Sink.written g.W.Sink.faults g.W.Sink.sure c.args.out.now c.report_reason.new.out (reason_report r) c.report_reason.result) c.records.ensures c.report_reason.ensures

@@ -1,0 +1,16 @@
+use Rattle.std.proofs.Common.{subst}
+use Rattle.boundary_orders.specs.Dossiers.{Findings, AreFew}
+use Rattle.report_base.specs.Reports.{Writes, findings_from}
+use Rattle.report_base.proofs.Limits.{few_written}
+use Rattle.crm_matrix.specs.MatrixTexts.{matrix_of_found, matrix_found}
+use Rattle.crm_matrix.proofs.matrix_report.report_matrix.Goals as goal
+
+pub returns-in-Ok : goal.returns-in-Ok
+returns-in-Ok g c =
+    few_written g.W.Sink.written g.W.Sink.faults g.W.Sink.sure _ _ _ _ _ (subst AreFew c.in-Ok.ensures.ok.dossier c.in-Ok.ensures.ok.few)
+    (subst (λ (f : Findings). Writes g.W.Sink.written g.W.Sink.faults g.W.Sink.sure c.args.out.now c.tell_found.new.out
+    (matrix_of_found c.args.records.now.names c.args.records.now.triples f) c.tell_found.result)
+    c.in-Ok.ensures.ok.dossier c.tell_found.ensures)
+
+pub returns-in-Err : goal.returns-in-Err
+returns-in-Err g c = c.tell_passed.ensures (findings_from c.args.records.now) (matrix_found c.args.records.now) c.in-Err.ensures.err

@@ -1,0 +1,4 @@
+pub mod Headline
+pub mod Outcomes
+pub mod Report
+pub mod Words

@@ -1,0 +1,13 @@
+use Rattle.std.proofs.Common.{subst}
+use Rattle.boundary_orders.specs.Dossiers.{AreFew}
+use Rattle.report_base.proofs.Limits.{few_written}
+use Rattle.report_base.specs.Reports.{findings_from}
+use Rattle.inference_reports.specs.Reasons.{reasons_report}
+use Rattle.inference_reports.proofs.reasoning.report_reason.Goals as goal
+
+pub returns-in-Ok : goal.returns-in-Ok
+returns-in-Ok g c =
+    few_written g.W.Sink.written g.W.Sink.faults g.W.Sink.sure _ _ _ _ _ (subst AreFew c.in-Ok.ensures.ok.dossier c.in-Ok.ensures.ok.few) c.tell_reasons.ensures
+
+pub returns-in-Err : goal.returns-in-Err
+returns-in-Err g c = c.tell_passed.ensures (findings_from c.args.records.now) (reasons_report c.args.records.now) c.in-Err.ensures.err
