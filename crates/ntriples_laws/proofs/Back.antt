@@ -39,7 +39,7 @@ use Rattle.ntriples_laws.proofs.Holding.{answered}
 use Rattle.ntriples_laws.proofs.Terms.{Begun, SubjectRead, iri_subject, blank_subject, with_subject, VerbRead, iri_verb, with_verb, ObjectRead, iri_object, blank_object, literal_object, with_object}
 
 -- the full stop and the line's end
-stop_read : (m : LineState) (e : Expect) (h : Held) (rest : List ℕ) (at : ℕ) → lines.next e kind.Dot ≡ Some expect.End → Stops state.Lines rest
+pub stop_read : (m : LineState) (e : Expect) (h : Held) (rest : List ℕ) (at : ℕ) → lines.next e kind.Dot ≡ Some expect.End → Stops state.Lines rest
     → judge (record m { expect = e }) h (items Between 0 (0x2E ∷ 0xA ∷ rest) at)
     ≡ judge (record m { expect = expect.Start }) (held_after h (record m { expect = expect.End })) (items Between 0 rest (at + width (0x2E ∷ []) + width (0xA ∷ [])))
 stop_read m e h rest at dot s =
@@ -48,55 +48,55 @@ stop_read m e h rest at dot s =
     ∙ ap (λ o. by_code (code_by o None) at (judge (moved (record m { expect = e }) o) (held_after h (moved (record m { expect = e }) o)) (items Between 0 (0xA ∷ rest) far))) dot
     ∙ ap (judge (record m { expect = expect.End }) (held_after h (record m { expect = expect.End }))) (item_is kind.Eol 0xA [] rest state.Lines far refl refl refl (omega arith) s)
 
-record LineTaken (names : NameLists) (t : Triple) (l : LineState) (h : Held) (text rest : List ℕ) (at : ℕ) : Type 0 where
-  line : LineState
-  after : ℕ
-  shows : Shows names t line
-  is : judge (record l { expect = expect.Start }) h (items Between 0 text at) ≡ judge (record line { expect = expect.Start }) (held_after h line) (items Between 0 rest after)
+pub record LineTaken (names : NameLists) (t : Triple) (l : LineState) (h : Held) (text rest : List ℕ) (at : ℕ) : Type 0 where
+  pub line : LineState
+  pub after : ℕ
+  pub shows : Shows names t line
+  pub is : judge (record l { expect = expect.Start }) h (items Between 0 text at) ≡ judge (record line { expect = expect.Start }) (held_after h line) (items Between 0 rest after)
 
-record LineRead (names : NameLists) (t : Triple) : Type 0 where
-  chars : List ℕ
-  bytes : canonical_line names t ≡ encodes chars
-  good : scalars chars ≡ true
-  begun : (rest : List ℕ) → Begun (chars ++ rest)
-  reads : (l : LineState) (h : Held) (rest : List ℕ) (at : ℕ) → Stops state.Lines rest → LineTaken names t l h (chars ++ rest) rest at
+pub record LineRead (names : NameLists) (t : Triple) : Type 0 where
+  pub chars : List ℕ
+  pub bytes : canonical_line names t ≡ encodes chars
+  pub good : scalars chars ≡ true
+  pub begun : (rest : List ℕ) → Begun (chars ++ rest)
+  pub reads : (l : LineState) (h : Held) (rest : List ℕ) (at : ℕ) → Stops state.Lines rest → LineTaken names t l h (chars ++ rest) rest at
 
-abbrev line_end : List ℕ
+abbrev pub line_end : List ℕ
 line_end = 0x20 ∷ 0x2E ∷ 0xA ∷ []
 
-spaced : (a x : List ℕ) → encodes (a ++ 0x20 ∷ x) ≡ encodes a ++ 0x20 ∷ encodes x
+pub spaced : (a x : List ℕ) → encodes (a ++ 0x20 ∷ x) ≡ encodes a ++ 0x20 ∷ encodes x
 spaced a x = encodes-append a (0x20 ∷ x) ∙ ap (λ y. encodes a ++ (y ++ encodes x)) (encode_ascii 0x20 (omega arith))
 
-end_bytes : encodes (0x2E ∷ 0xA ∷ []) ≡ 0x2E ∷ 0xA ∷ []
+pub end_bytes : encodes (0x2E ∷ 0xA ∷ []) ≡ 0x2E ∷ 0xA ∷ []
 end_bytes = ap₂ (λ x y. x ++ (y ++ [])) (encode_ascii 0x2E (omega arith)) (encode_ascii 0xA (omega arith))
 
-line_bytes : (names : NameLists) (t : Triple) (s p o : List ℕ) → term_text names t.s ≡ encodes s → term_text names t.p ≡ encodes p → term_text names t.o ≡ encodes o
+pub line_bytes : (names : NameLists) (t : Triple) (s p o : List ℕ) → term_text names t.s ≡ encodes s → term_text names t.p ≡ encodes p → term_text names t.o ≡ encodes o
     → canonical_line names t ≡ encodes (s ++ 0x20 ∷ (p ++ 0x20 ∷ (o ++ line_end)))
 unfolding canonical_line
 line_bytes names t s p o a b c =
     ap₂ (λ x y. x ++ (codes " " ++ y)) a (ap₂ (λ x y. x ++ (codes " " ++ y)) b (ap (λ x. x ++ codes " .\n") c))
     ∙ sym (spaced s (p ++ 0x20 ∷ (o ++ line_end)) ∙ ap (λ y. encodes s ++ 0x20 ∷ y) (spaced p (o ++ line_end) ∙ ap (λ y. encodes p ++ 0x20 ∷ y) (spaced o (0x2E ∷ 0xA ∷ []) ∙ ap (λ y. encodes o ++ 0x20 ∷ y) end_bytes)))
 
-spaced_scalars : (a x : List ℕ) → scalars a ≡ true → scalars x ≡ true → scalars (a ++ 0x20 ∷ x) ≡ true
+pub spaced_scalars : (a x : List ℕ) → scalars a ≡ true → scalars x ≡ true → scalars (a ++ 0x20 ∷ x) ≡ true
 spaced_scalars a x h k = scalars_append a (0x20 ∷ x) h k
 
-line_whole : (s p o rest : List ℕ) → (s ++ 0x20 ∷ (p ++ 0x20 ∷ (o ++ line_end))) ++ rest ≡ s ++ 0x20 ∷ (p ++ 0x20 ∷ (o ++ 0x20 ∷ 0x2E ∷ 0xA ∷ rest))
+pub line_whole : (s p o rest : List ℕ) → (s ++ 0x20 ∷ (p ++ 0x20 ∷ (o ++ line_end))) ++ rest ≡ s ++ 0x20 ∷ (p ++ 0x20 ∷ (o ++ 0x20 ∷ 0x2E ∷ 0xA ∷ rest))
 line_whole s p o rest =
     append_assoc s (0x20 ∷ (p ++ 0x20 ∷ (o ++ line_end))) rest
     ∙ ap (λ y. s ++ 0x20 ∷ y) (append_assoc p (0x20 ∷ (o ++ line_end)) rest ∙ ap (λ y. p ++ 0x20 ∷ y) (append_assoc o line_end rest))
 
 -- what follows the subject, the predicate and the object
-abbrev behind_object : List ℕ → List ℕ
+abbrev pub behind_object : List ℕ → List ℕ
 behind_object rest = 0x2E ∷ 0xA ∷ rest
 
-abbrev behind_verb : List ℕ → List ℕ → List ℕ
+abbrev pub behind_verb : List ℕ → List ℕ → List ℕ
 behind_verb o rest = o ++ 0x20 ∷ behind_object rest
 
-abbrev behind_subject : List ℕ → List ℕ → List ℕ → List ℕ
+abbrev pub behind_subject : List ℕ → List ℕ → List ℕ → List ℕ
 behind_subject p o rest = p ++ 0x20 ∷ behind_verb o rest
 
 -- the parts of a line, one after another
-parts_read : (h : Held) (l a b c : LineState) (s p o rest : List ℕ) (at x y z : ℕ)
+pub parts_read : (h : Held) (l a b c : LineState) (s p o rest : List ℕ) (at x y z : ℕ)
     → judge (record l { expect = expect.Start }) h (items Between 0 (s ++ 0x20 ∷ behind_subject p o rest) at) ≡ judge a h (items Between 0 (behind_subject p o rest) x)
     → judge a h (items Between 0 (behind_subject p o rest) x) ≡ judge b h (items Between 0 (behind_verb o rest) y)
     → judge b h (items Between 0 (behind_verb o rest) y) ≡ judge c h (items Between 0 (behind_object rest) z)
@@ -106,7 +106,7 @@ parts_read : (h : Held) (l a b c : LineState) (s p o rest : List ℕ) (at x y z 
 parts_read h l a b c s p o rest at x y z subject verb object dot stops =
     ap (λ t. judge (record l { expect = expect.Start }) h (items Between 0 t at)) (line_whole s p o rest) ∙ subject ∙ verb ∙ object ∙ stop_read c c.expect h rest z dot stops
 
-line_read : (names : NameLists) (t : Triple) → SubjectRead names t.s → VerbRead names t.p → ObjectRead names t.o → LineRead names t
+pub line_read : (names : NameLists) (t : Triple) → SubjectRead names t.s → VerbRead names t.p → ObjectRead names t.o → LineRead names t
 line_read names t s p o = record {
   chars = s.chars ++ 0x20 ∷ (p.chars ++ 0x20 ∷ (o.chars ++ line_end));
   bytes = line_bytes names t s.chars p.chars o.chars s.bytes p.bytes o.bytes;
@@ -127,43 +127,43 @@ line_read names t s p o = record {
 }
 
 -- the terms of a triple that is held
-record Got {X : Type 0} (xs : List X) (n : ℕ) : Type 0 where
-  value : X
-  is : slice_get xs n ≡ Some value
+pub record Got {X : Type 0} (xs : List X) (n : ℕ) : Type 0 where
+  pub value : X
+  pub is : slice_get xs n ≡ Some value
 
-got : {X : Type 0} (xs : List X) (n : ℕ) → n < length xs → Got xs n
+pub got : {X : Type 0} (xs : List X) (n : ℕ) → n < length xs → Got xs n
 got [] n h = absurd (omega (arith, h))
 got (x ∷ xs) zero h = record { value = x; is = refl }
 got (x ∷ xs) (suc n) h = let r = got xs n (omega (arith, h)) in record { value = r.value; is = r.is }
 
-subject_of : (st : Store) → GoodNames st.names → length st.labels < 2 ^ 64 → (t : Term) → InStore st t → is_literal t ≡ false → SubjectRead st.names t
+pub subject_of : (st : Store) → GoodNames st.names → length st.labels < 2 ^ 64 → (t : Term) → InStore st t → is_literal t ≡ false → SubjectRead st.names t
 subject_of st good small (term.Iri n) i h = let r = got st.names.iris n i in iri_subject st.names n r.value r.is (good.iris n r.value r.is)
 subject_of st good small (term.Blank n) i h = blank_subject st.names n (omega (arith, small, i))
 subject_of st good small (term.Lit n) i h = absurd (true≢false h)
 
-verb_of : (st : Store) → GoodNames st.names → (t : Term) → InStore st t → is_iri t ≡ true → VerbRead st.names t
+pub verb_of : (st : Store) → GoodNames st.names → (t : Term) → InStore st t → is_iri t ≡ true → VerbRead st.names t
 verb_of st good (term.Iri n) i h = let r = got st.names.iris n i in iri_verb st.names n r.value r.is (good.iris n r.value r.is)
 verb_of st good (term.Blank n) i h = absurd (false≢true h)
 verb_of st good (term.Lit n) i h = absurd (false≢true h)
 
-object_of : (st : Store) → GoodNames st.names → length st.labels < 2 ^ 64 → (t : Term) → InStore st t → ObjectRead st.names t
+pub object_of : (st : Store) → GoodNames st.names → length st.labels < 2 ^ 64 → (t : Term) → InStore st t → ObjectRead st.names t
 object_of st good small (term.Iri n) i = let r = got st.names.iris n i in iri_object st.names n r.value r.is (good.iris n r.value r.is)
 object_of st good small (term.Blank n) i = blank_object st.names n (omega (arith, small, i))
 object_of st good small (term.Lit n) i = let r = got st.names.literals n i in literal_object st.names n r.value r.is (good.literals n r.value r.is)
 
-record TextTaken (names : NameLists) (ts : List Triple) (l : LineState) (h : Held) (text : List ℕ) (at : ℕ) : Type 0 where
-  lines : List LineState
-  shows : ShowAll names ts lines
-  is : judge (record l { expect = expect.Start }) h (items Between 0 text at) ≡ unless (held_all h lines).limit (Read (records_of (held_all h lines).store))
+pub record TextTaken (names : NameLists) (ts : List Triple) (l : LineState) (h : Held) (text : List ℕ) (at : ℕ) : Type 0 where
+  pub lines : List LineState
+  pub shows : ShowAll names ts lines
+  pub is : judge (record l { expect = expect.Start }) h (items Between 0 text at) ≡ unless (held_all h lines).limit (Read (records_of (held_all h lines).store))
 
-record TextRead (names : NameLists) (ts : List Triple) : Type 0 where
-  chars : List ℕ
-  bytes : flat_map (canonical_line names) ts ≡ encodes chars
-  good : scalars chars ≡ true
-  begun : Begun chars
-  reads : (l : LineState) (h : Held) (at : ℕ) → TextTaken names ts l h chars at
+pub record TextRead (names : NameLists) (ts : List Triple) : Type 0 where
+  pub chars : List ℕ
+  pub bytes : flat_map (canonical_line names) ts ≡ encodes chars
+  pub good : scalars chars ≡ true
+  pub begun : Begun chars
+  pub reads : (l : LineState) (h : Held) (at : ℕ) → TextTaken names ts l h chars at
 
-text_read : (st : Store) → GoodNames st.names → length st.labels < 2 ^ 64 → (ts : List Triple) → AllIn st ts → TextRead st.names ts
+pub text_read : (st : Store) → GoodNames st.names → length st.labels < 2 ^ 64 → (ts : List Triple) → AllIn st ts → TextRead st.names ts
 text_read st good small [] f = record {
   chars = [];
   bytes = refl;
@@ -185,7 +185,7 @@ text_read st good small (t ∷ ts) f =
           record { lines = a.line ∷ b.lines; shows = (a.shows, b.shows); is = a.is ∙ b.is };
     }
 
-store_back : (st : Store) → Kept st → GoodNames st.names → (q : Records) × (answer (canonical_text (records_of st)) ≡ Read q) × IsSame q (records_of st)
+pub store_back : (st : Store) → Kept st → GoodNames st.names → (q : Records) × (answer (canonical_text (records_of st)) ≡ Read q) × IsSame q (records_of st)
 store_back st kept good =
     let few : length st.labels < 2 ^ 64 = omega (arith, kept.few, kept.short) in
     let text = text_read st good few st.triples kept.fitting in

@@ -53,7 +53,7 @@ abbrev pub AreTokens : Items → Type 0
 AreTokens (Item k chars at rest) = IsToken k chars × AreTokens rest
 AreTokens _ = Unit {0}
 
-not_wide : (chars rest : List ℕ) (k : Kind) → Spells ntriples k chars → (IsTooLong scanner (chars ++ rest) → ⊥) → width chars ≤ 65536
+pub not_wide : (chars rest : List ℕ) (k : Kind) → Spells ntriples k chars → (IsTooLong scanner (chars ++ rest) → ⊥) → width chars ≤ 65536
 not_wide chars rest k s never = elim (cases_lt 65536 (width chars)) [
   | inl w ↦ absurd (never (record {
     count = length chars;
@@ -64,7 +64,7 @@ not_wide chars rest k s never = elim (cases_lt 65536 (width chars)) [
   | inr le ↦ le
 ]
 
-are_tokens : (i : Items) (p : Place) (text : List ℕ) (at : ℕ) → scalars text ≡ true → AreItems p text at i → AreTokens i
+pub are_tokens : (i : Items) (p : Place) (text : List ℕ) (at : ℕ) → scalars text ≡ true → AreItems p text at i → AreTokens i
 are_tokens (Stop end) p text at good a = tt
 are_tokens (Bad place) p text at good a = tt
 are_tokens (TooLong place) p text at good a = tt
@@ -74,22 +74,22 @@ are_tokens (Item k chars place more) p text at good (g, rest, e, gap, first, nev
     (record { spelled = spelled; good = two.0; narrow = not_wide chars rest k spelled never }, are_tokens more Between rest (place + width chars) two.1 inner)
 
 -- the texts of a line as far as it was read
-abbrev TermOk : Sort → List ℕ → LineState → Type 0
+abbrev pub TermOk : Sort → List ℕ → LineState → Type 0
 TermOk sort.Iri text l = GoodIri text
 TermOk sort.Blank text l = Unit {0}
 TermOk sort.Literal text l = GoodLiteral (literal_of text l)
 
-abbrev NodeOk : Sort → List ℕ → Type 0
+abbrev pub NodeOk : Sort → List ℕ → Type 0
 NodeOk sort.Iri text = GoodIri text
 NodeOk sort.Blank text = Unit {0}
 NodeOk sort.Literal text = ⊥
 
-record Sayable (l : LineState) : Type 0 where
-  subject : NodeOk l.subject_sort l.subject
-  predicate : GoodIri l.predicate
-  object : TermOk l.object_sort l.object l
+pub record Sayable (l : LineState) : Type 0 where
+  pub subject : NodeOk l.subject_sort l.subject
+  pub predicate : GoodIri l.predicate
+  pub object : TermOk l.object_sort l.object l
 
-abbrev LineOk : Expect → LineState → Type 0
+abbrev pub LineOk : Expect → LineState → Type 0
 LineOk expect.Start l = Unit {0}
 LineOk expect.Subject l = NodeOk l.subject_sort l.subject
 LineOk expect.Predicate l = NodeOk l.subject_sort l.subject × GoodIri l.predicate
@@ -98,10 +98,10 @@ LineOk expect.Typed l = NodeOk l.subject_sort l.subject × GoodIri l.predicate �
 LineOk expect.Object l = Sayable l
 LineOk expect.End l = Unit {0}
 
-some_not : (c : Code) → ◌≡◌ {A = Option Code} (Some c) None → ⊥
+pub some_not : (c : Code) → ◌≡◌ {A = Option Code} (Some c) None → ⊥
 some_not c e = cc e
 
-line_ok : (e : Expect) (k : Kind) (l : LineState) (chars : List ℕ) (at : ℕ) → LineOk e l → IsToken k chars → code_at (record l { expect = e }) k chars ≡ None
+pub line_ok : (e : Expect) (k : Kind) (l : LineState) (chars : List ℕ) (at : ℕ) → LineOk e l → IsToken k chars → code_at (record l { expect = e }) k chars ≡ None
     → LineOk (line_after (record l { expect = e }) k chars at).expect (line_after (record l { expect = e }) k chars at)
 line_ok expect.Start kind.IriRef l chars at h t c = iri_good chars t c
 line_ok expect.Start kind.Blank l chars at h t c = tt
@@ -133,7 +133,7 @@ line_ok expect.End kind.Eol l chars at h t c = tt
 line_ok expect.End _ l chars at h t c = absurd (some_not _ c)
 
 -- a line with its full stop
-dot_ok : (e : Expect) (l : LineState) (chars : List ℕ) (at : ℕ) → LineOk e l → code_at (record l { expect = e }) kind.Dot chars ≡ None → Sayable (line_after (record l { expect = e }) kind.Dot chars at)
+pub dot_ok : (e : Expect) (l : LineState) (chars : List ℕ) (at : ℕ) → LineOk e l → code_at (record l { expect = e }) kind.Dot chars ≡ None → Sayable (line_after (record l { expect = e }) kind.Dot chars at)
 dot_ok expect.Object l chars at h c = record { subject = h.subject; predicate = h.predicate; object = moved_ok l.object_sort h.object }
   where
     moved_ok : (s : Sort) → TermOk s l.object l → TermOk s l.object (record l { expect = expect.End })
@@ -152,21 +152,21 @@ dot_ok expect.Typed l chars at h c = absurd (some_not _ c)
 dot_ok expect.End l chars at h c = absurd (some_not _ c)
 
 -- names stay good
-node_good : (st : Store) (so : Sort) (text : List ℕ) (l : LineState) (t : Term) → node_term st so text l ≡ Some t → TermOk so text l → GoodNames st.names → GoodNames (node_store st so text l).names
+pub node_good : (st : Store) (so : Sort) (text : List ℕ) (l : LineState) (t : Term) → node_term st so text l ≡ Some t → TermOk so text l → GoodNames st.names → GoodNames (node_store st so text l).names
 node_good st sort.Iri text l t h ok good = subst GoodNames (sym (iri_there st.names text t h).0) (record { iris = good_join GoodIri (bytes_eq text) st.names.iris text good.iris ok; literals = good.literals })
 node_good st sort.Blank text l t h ok good = good
 node_good st sort.Literal text l t h ok good = let v = literal_of text l in
     subst GoodNames (sym (literal_there st.names v t h).0) (record { iris = good.iris; literals = good_join GoodLiteral (same_literal v) st.names.literals v good.literals ok })
 
-node_ok : (so : Sort) (text : List ℕ) (l : LineState) → NodeOk so text → TermOk so text l
+pub node_ok : (so : Sort) (text : List ℕ) (l : LineState) → NodeOk so text → TermOk so text l
 node_ok sort.Iri text l h = h
 node_ok sort.Blank text l h = h
 node_ok sort.Literal text l h = absurd h
 
-no_literal : (so : Sort) (text : List ℕ) → NodeOk so text → so ≡ sort.Literal → ⊥
+pub no_literal : (so : Sort) (text : List ℕ) → NodeOk so text → so ≡ sort.Literal → ⊥
 no_literal so text h e = subst (λ s. NodeOk s text) e h
 
-line_good : (st : Store) (l : LineState) (next : Store) → Sayable l → with_line st l ≡ (None, next) → GoodNames st.names → GoodNames next.names
+pub line_good : (st : Store) (l : LineState) (next : Store) → Sayable l → with_line st l ≡ (None, next) → GoodNames st.names → GoodNames next.names
 line_good st l next s e good =
     let k = taken st l next e in
     let a = node_good st l.subject_sort l.subject l k.s k.first (node_ok l.subject_sort l.subject l s.subject) good in
@@ -174,14 +174,14 @@ line_good st l next s e good =
     let c = node_good (second_store st l) l.object_sort l.object l k.o k.third s.object b in
     subst GoodNames (sym (ap (λ x. x.names) k.is)) c
 
-abbrev LimitOk : Option Refusal → Store → Type 0
+abbrev pub LimitOk : Option Refusal → Store → Type 0
 LimitOk None st = Kept st × GoodNames st.names
 LimitOk (Some r) st = Unit {0}
 
-abbrev HeldOk : Held → Type 0
+abbrev pub HeldOk : Held → Type 0
 HeldOk h = LimitOk h.limit h.store
 
-limited_ok : (st : Store) (l : LineState) (x : Option Code × Store) → Sayable l → Kept st → GoodNames st.names → with_line st l ≡ x → HeldOk (limited x.1 x.0 l.at)
+pub limited_ok : (st : Store) (l : LineState) (x : Option Code × Store) → Sayable l → Kept st → GoodNames st.names → with_line st l ≡ x → HeldOk (limited x.1 x.0 l.at)
 limited_ok st l x s kept good e = by x.0 refl
   where
     by : (c : Option Code) → x.0 ≡ c → HeldOk (limited x.1 x.0 l.at)
@@ -190,7 +190,7 @@ limited_ok st l x s kept good e = by x.0 refl
         let line : with_line st l ≡ (None, x.1) = e ∙ ap (λ o. (o, x.1)) f in
         subst (λ o. HeldOk (limited x.1 o l.at)) (sym f) (kept_step st l x.1 (no_literal l.subject_sort l.subject s.subject) line kept, line_good st l x.1 s line good)
 
-held_step : (h : Held) (l : LineState) → Sayable l → HeldOk h → HeldOk (held_after h l)
+pub held_step : (h : Held) (l : LineState) → Sayable l → HeldOk h → HeldOk (held_after h l)
 held_step h l s ok = by h.limit refl
   where
     by : (o : Option Refusal) → h.limit ≡ o → HeldOk (held_after h l)
@@ -198,7 +198,7 @@ held_step h l s ok = by h.limit refl
     by None e = let both = subst (λ o. LimitOk o h.store) e ok in
         subst HeldOk (sym (ap (λ o. held_by (is_some o) h l) e)) (limited_ok h.store l (with_line h.store l) s both.0 both.1 refl)
 
-held_ok : (k : Kind) (l : LineState) (h : Held) (chars : List ℕ) (at : ℕ) → LineOk l.expect l → code_at l k chars ≡ None → HeldOk h → HeldOk (held_behind k (line_after l k chars at) h)
+pub held_ok : (k : Kind) (l : LineState) (h : Held) (chars : List ℕ) (at : ℕ) → LineOk l.expect l → code_at l k chars ≡ None → HeldOk h → HeldOk (held_behind k (line_after l k chars at) h)
 held_ok kind.Dot l h chars at ok c held = held_step h (line_after l kind.Dot chars at) (dot_ok l.expect l chars at ok c) held
 held_ok _ l h chars at ok c held = held
 
@@ -209,15 +209,15 @@ pub record Answered (r : Records) : Type 0 where
   pub kept : Kept store
   pub good : GoodNames store.names
 
-read_same : (a b : Records) → ◌≡◌ {A = Answer} (Read a) (Read b) → a ≡ b
+pub read_same : (a b : Records) → ◌≡◌ {A = Answer} (Read a) (Read b) → a ≡ b
 read_same a b e = cc
 
-stop_ok : (b : Bool) (o : Option Refusal) (st : Store) (end : ℕ) (r : Records) → cond b (unless o (Read (records_of st))) (Refuse G3 end) ≡ Read r → LimitOk o st → Answered r
+pub stop_ok : (b : Bool) (o : Option Refusal) (st : Store) (end : ℕ) (r : Records) → cond b (unless o (Read (records_of st))) (Refuse G3 end) ≡ Read r → LimitOk o st → Answered r
 stop_ok true None st end r e ok = record { store = st; is = sym (read_same (records_of st) r e); kept = ok.0; good = ok.1 }
 stop_ok true (Some x) st end r e ok = absurd (refused_not x.code x.at r e)
 stop_ok false o st end r e ok = absurd (refused_not G3 end r e)
 
-judge_ok : (i : Items) (l : LineState) (h : Held) (r : Records) → AreTokens i → LineOk l.expect l → HeldOk h → judge l h i ≡ Read r → Answered r
+pub judge_ok : (i : Items) (l : LineState) (h : Held) (r : Records) → AreTokens i → LineOk l.expect l → HeldOk h → judge l h i ≡ Read r → Answered r
 judge_ok (Stop end) l h r t ok held e = stop_ok _ h.limit h.store end r e held
 judge_ok (Bad at) l h r t ok held e = absurd (refused_not _ at r e)
 judge_ok (TooLong at) l h r t ok held e = absurd (refused_not _ at r e)
@@ -229,7 +229,7 @@ judge_ok (Item k chars at rest) l h r t ok held e = by (code_at l k chars) refl
     by (Some c) f go = absurd (refused_not c at r (ap (λ o. by_code o at (judge (line_after l k chars at) (held_behind k (line_after l k chars at) h) rest)) (sym f) ∙ e))
     by None f go = go f (ap (λ o. by_code o at (judge (line_after l k chars at) (held_behind k (line_after l k chars at) h) rest)) (sym f) ∙ e)
 
-scalars_chars : (cs : List ℕ) → scalars cs ≡ true → AreChars cs
+pub scalars_chars : (cs : List ℕ) → scalars cs ≡ true → AreChars cs
 scalars_chars [] h = tt
 scalars_chars (c ∷ cs) h = let both = and_parts (scalar c) (scalars cs) h in (small_scalar c both.0, scalars_chars cs both.1)
 

@@ -36,7 +36,7 @@ states_append None (c ∷ s) [] = refl
 states_append None (c ∷ s) (d ∷ t) = refl
 states_append (Some q) (c ∷ s) t = states_append (next q (class_at c)) s t
 
-none_states : (s : List ℕ) (p : State) → states None s ≡ Some p → ⊥
+pub none_states : (s : List ℕ) (p : State) → states None s ≡ Some p → ⊥
 none_states [] p e = cc e
 none_states (c ∷ s) p e = cc e
 
@@ -57,16 +57,16 @@ ran q k (c ∷ s) chars m = by (next q (class_at c)) refl (ntriples_machine.step
 pub spelled_ran : (k : Kind) (s : List ℕ) → AreChars s → Spells ntriples k s → Ran state.Start k s
 spelled_ran k s chars m = ran state.Start k s chars (subst (λ p. Matches p s) (sym (ntriples_machine.starts k)) m)
 
-abbrev reading : State → Option (Kind × ℕ) → ℕ → ℕ → Reading State Kind
+abbrev pub reading : State → Option (Kind × ℕ) → ℕ → ℕ → Reading State Kind
 reading q last n w = record { state = q; last = last; count = n; width = w }
 
-stepped : (r : Reading State Kind) (q : State) (c : ℕ) (more : List ℕ) → next r.state (class_at c) ≡ Some q → r.width + len_utf8 c ≤ 65536
+pub stepped : (r : Reading State Kind) (q : State) (c : ℕ) (more : List ℕ) → next r.state (class_at c) ≡ Some q → r.width + len_utf8 c ≤ 65536
     → read_from scanner r (c ∷ more) ≡ read_from scanner (reading q (last_after (accepts q) r.last (r.count + 1)) (r.count + 1) (r.width + len_utf8 c)) more
 stepped r q c more e h = ap (λ o. goes (by_state scanner o r (len_utf8 c)) (λ q. read_from scanner q more) (λ f. f)) e
     ∙ ap (λ s. goes s (λ q. read_from scanner q more) (λ f. f)) (cond-false (nat_lt 65536 (r.width + len_utf8 c)) _ _ (le-ltb 65536 (r.width + len_utf8 c) h))
 
 -- over a whole token
-over : (t rest : List ℕ) (c : ℕ) (r : Reading State Kind) (p : State) (k : Kind) (n w : ℕ) → states (Some r.state) (c ∷ t) ≡ Some p → accepts p ≡ Some k
+pub over : (t rest : List ℕ) (c : ℕ) (r : Reading State Kind) (p : State) (k : Kind) (n w : ℕ) → states (Some r.state) (c ∷ t) ≡ Some p → accepts p ≡ Some k
     → n ≡ r.count + length (c ∷ t) → w ≡ r.width + width (c ∷ t) → w ≤ 65536 → read_from scanner r ((c ∷ t) ++ rest) ≡ read_from scanner (reading p (Some (k, n)) n w) rest
 over [] rest c r p k n w e a cn cw le =
     let one : n ≡ r.count + 1 = omega (arith, cn) in
@@ -88,18 +88,18 @@ abbrev pub Stops : State → List ℕ → Type 0
 Stops p [] = Unit {0}
 Stops p (c ∷ rest) = next p (class_at c) ≡ None
 
-stopped : (p : State) (k : Kind) (n w : ℕ) (rest : List ℕ) → Stops p rest → read_from scanner (reading p (Some (k, n)) n w) rest ≡ Token k n
+pub stopped : (p : State) (k : Kind) (n w : ℕ) (rest : List ℕ) → Stops p rest → read_from scanner (reading p (Some (k, n)) n w) rest ≡ Token k n
 stopped p k n w [] s = refl
 stopped p k n w (c ∷ rest) s = ap (λ o. goes (by_state scanner o (reading p (Some (k, n)) n w) (len_utf8 c)) (λ q. read_from scanner q rest) (λ f. f)) s
 
-front_is : (k : Kind) (c : ℕ) (t rest : List ℕ) (p : State) → states (Some state.Start) (c ∷ t) ≡ Some p → accepts p ≡ Some k → width (c ∷ t) ≤ 65536 → Stops p rest
+pub front_is : (k : Kind) (c : ℕ) (t rest : List ℕ) (p : State) → states (Some state.Start) (c ∷ t) ≡ Some p → accepts p ≡ Some k → width (c ∷ t) ≤ 65536 → Stops p rest
     → front_of scanner ((c ∷ t) ++ rest) ≡ Token k (length (c ∷ t))
 front_is k c t rest p e a w s = over t rest c (start scanner) p k (length (c ∷ t)) (width (c ∷ t)) e a (omega arith) (omega arith) w ∙ stopped p k (length (c ∷ t)) (width (c ∷ t)) rest s
 
 pub taken_all : (t rest : List ℕ) → take (length t) (t ++ rest) ≡ t
 taken_all t rest = take-append-le (length t) t rest (omega arith) ∙ take-length t
 
-dropped_all : (t : List ℕ) → drop (length t) t ≡ []
+pub dropped_all : (t : List ℕ) → drop (length t) t ≡ []
 dropped_all [] = refl
 dropped_all (c ∷ t) = dropped_all t
 

@@ -71,15 +71,15 @@ kept_nothing = record { fitting = tt; few = omega arith; short = omega arith; re
     none names [] g s = record { store = empty_store; held = refl; again = record { names = refl; labels = refl; triples = refl } }
     none names (l ∷ ls) g s = absurd s
 
-fits_larger : (a b : Store) → Larger a b → (t : Triple) → FitsIn a t → FitsIn b t
+pub fits_larger : (a b : Store) → Larger a b → (t : Triple) → FitsIn a t → FitsIn b t
 fits_larger a b g t f = record { s = in_larger a b g t.s f.s; p = in_larger a b g t.p f.p; o = in_larger a b g t.o f.o; node = f.node; verb = f.verb }
 
-all_push : (a b : Store) → Larger a b → (ts : List Triple) (t : Triple) → AllIn a ts → FitsIn b t → AllIn b (ts ++ t ∷ [])
+pub all_push : (a b : Store) → Larger a b → (ts : List Triple) (t : Triple) → AllIn a ts → FitsIn b t → AllIn b (ts ++ t ∷ [])
 all_push a b g [] t f h = (h, tt)
 all_push a b g (u ∷ ts) t f h = (fits_larger a b g u f.0, all_push a b g ts t f.1 h)
 
 -- the terms of a triple that is held
-held_fits : (st : Store) (ts : List Triple) (t : Triple) → is_held ts t ≡ true → AllIn st ts → InStore st t.s × InStore st t.p × InStore st t.o
+pub held_fits : (st : Store) (ts : List Triple) (t : Triple) → is_held ts t ≡ true → AllIn st ts → InStore st t.s × InStore st t.p × InStore st t.o
 held_fits st [] t h f = absurd (true≢false (sym h))
 held_fits st (u ∷ ts) t h f = by (same_terms t u) refl h (λ g. held_fits st ts t g f.1)
   where
@@ -88,62 +88,62 @@ held_fits st (u ∷ ts) t h f = by (same_terms t u) refl h (λ g. held_fits st t
     by false e h go = go h
 
 -- whether a triple is held does not depend on places
-abbrev same_three : Term × Term × Term → Term × Term × Term → Bool
+abbrev pub same_three : Term × Term × Term → Term × Term × Term → Bool
 same_three x y = (same_term x.0 y.0 && same_term x.1 y.1) && same_term x.2 y.2
 
-held_by_terms : (ts : List Triple) (t : Triple) → is_held ts t ≡ list_any (same_three (terms_of t)) (map terms_of ts)
+pub held_by_terms : (ts : List Triple) (t : Triple) → is_held ts t ≡ list_any (same_three (terms_of t)) (map terms_of ts)
 held_by_terms ts t = sym (list_any_map (same_three (terms_of t)) terms_of ts)
 
-held_same : (ts us : List Triple) (t u : Triple) → map terms_of ts ≡ map terms_of us → terms_of t ≡ terms_of u → is_held ts t ≡ is_held us u
+pub held_same : (ts us : List Triple) (t u : Triple) → map terms_of ts ≡ map terms_of us → terms_of t ≡ terms_of u → is_held ts t ≡ is_held us u
 held_same ts us t u e f = held_by_terms ts t ∙ ap₂ (λ x y. list_any (same_three x) y) f e ∙ sym (held_by_terms us u)
 
-length_same : (ts us : List Triple) → map terms_of ts ≡ map terms_of us → length ts ≡ length us
+pub length_same : (ts us : List Triple) → map terms_of ts ≡ map terms_of us → length ts ≡ length us
 length_same ts us e = sym (length-map ts terms_of) ∙ ap length e ∙ length-map us terms_of
 
-room_same : (ts us : List Triple) (t u : Triple) → map terms_of ts ≡ map terms_of us → terms_of t ≡ terms_of u → has_room ts t ≡ has_room us u
+pub room_same : (ts us : List Triple) (t u : Triple) → map terms_of ts ≡ map terms_of us → terms_of t ≡ terms_of u → has_room ts t ≡ has_room us u
 room_same ts us t u e f = ap₂ (λ b n. not (not b && nat_le 262144 n)) (held_same ts us t u e f) (length_same ts us e)
 
-fewer : (n : ℕ) → not (true && nat_le 262144 n) ≡ true → n < 262144
+pub fewer : (n : ℕ) → not (true && nat_le 262144 n) ≡ true → n < 262144
 fewer n h = grind (arith, nat_tests, h)
 
-room_left : (ts : List Triple) (t : Triple) → is_held ts t ≡ false → has_room ts t ≡ true → length ts < 262144
+pub room_left : (ts : List Triple) (t : Triple) → is_held ts t ≡ false → has_room ts t ≡ true → length ts < 262144
 room_left ts t h r = fewer (length ts) (ap (λ b. not (not b && nat_le 262144 (length ts))) (sym h) ∙ r)
 
 -- lines of triples, the last of them apart
-record Parted (names : NameLists) (ts : List Triple) (t : Triple) (ls : List LineState) : Type 0 where
-  front : List LineState
-  last : LineState
-  is : ls ≡ front ++ last ∷ []
-  shown : ShowAll names ts front
-  shows : Shows names t last
+pub record Parted (names : NameLists) (ts : List Triple) (t : Triple) (ls : List LineState) : Type 0 where
+  pub front : List LineState
+  pub last : LineState
+  pub is : ls ≡ front ++ last ∷ []
+  pub shown : ShowAll names ts front
+  pub shows : Shows names t last
 
-parted : (names : NameLists) (ts : List Triple) (t : Triple) (ls : List LineState) → ShowAll names (ts ++ t ∷ []) ls → Parted names ts t ls
+pub parted : (names : NameLists) (ts : List Triple) (t : Triple) (ls : List LineState) → ShowAll names (ts ++ t ∷ []) ls → Parted names ts t ls
 parted names [] t [] h = absurd h
 parted names [] t (l ∷ []) h = record { front = []; last = l; is = refl; shown = tt; shows = h.0 }
 parted names [] t (l ∷ m ∷ ls) h = absurd h.1
 parted names (u ∷ ts) t [] h = absurd h
 parted names (u ∷ ts) t (l ∷ ls) h = let p = parted names ts t ls h.1 in record { front = l ∷ p.front; last = p.last; is = ap (λ x. l ∷ x) p.is; shown = (h.0, p.shown); shows = p.shows }
 
-held_push : (h : Held) (ls : List LineState) (l : LineState) → held_all h (ls ++ l ∷ []) ≡ held_after (held_all h ls) l
+pub held_push : (h : Held) (ls : List LineState) (l : LineState) → held_all h (ls ++ l ∷ []) ≡ held_after (held_all h ls) l
 held_push h [] l = refl
 held_push h (m ∷ ls) l = held_push (held_after h m) ls l
 
-with_new : (ts : List Triple) (t : Triple) → is_held ts t ≡ false → with_triple ts t ≡ ts ++ t ∷ []
+pub with_new : (ts : List Triple) (t : Triple) → is_held ts t ≡ false → with_triple ts t ≡ ts ++ t ∷ []
 with_new ts t h = cond-false (is_held ts t) ts (ts ++ t ∷ []) h
 
-with_old : (ts : List Triple) (t : Triple) → is_held ts t ≡ true → with_triple ts t ≡ ts
+pub with_old : (ts : List Triple) (t : Triple) → is_held ts t ≡ true → with_triple ts t ≡ ts
 with_old ts t h = cond-true (is_held ts t) ts (ts ++ t ∷ []) h
 
-not_literal : (st : Store) (so : Sort) (text : List ℕ) (l : LineState) (t : Term) → (so ≡ sort.Literal → ⊥) → node_term st so text l ≡ Some t → is_literal t ≡ false
+pub not_literal : (st : Store) (so : Sort) (text : List ℕ) (l : LineState) (t : Term) → (so ≡ sort.Literal → ⊥) → node_term st so text l ≡ Some t → is_literal t ≡ false
 not_literal st sort.Iri text l t absent h = ap is_literal (iri_there st.names text t h).1
 not_literal st sort.Blank text l t absent h = ap is_literal (sym (some_same (term.Blank (label_number st.labels text)) t h))
 not_literal st sort.Literal text l t absent h = absurd (absent refl)
 
-abbrev store_of : NameLists → List (List ℕ) → List Triple → Store
+abbrev pub store_of : NameLists → List (List ℕ) → List Triple → Store
 store_of names labels triples = record { names = names; labels = labels; triples = triples }
 
 -- a line whose triple is held leaves all as before
-kept_old : (st : Store) (l : LineState) (next : Store) (k : Taken st l next) → AllIn st st.triples → is_held st.triples (record { s = k.s; p = k.p; o = k.o; at = l.at }) ≡ true → next ≡ st
+pub kept_old : (st : Store) (l : LineState) (next : Store) (k : Taken st l next) → AllIn st st.triples → is_held st.triples (record { s = k.s; p = k.p; o = k.o; at = l.at }) ≡ true → next ≡ st
 kept_old st l next k fitting present =
     let t : Triple = record { s = k.s; p = k.p; o = k.o; at = l.at } in
     let one = stepped st l.subject_sort l.subject l k.s k.first in
@@ -159,7 +159,7 @@ kept_old st l next k fitting present =
     ∙ ap (store_of st.names st.labels) triples
 
 -- a line with a new triple
-kept_new : (st : Store) (l : LineState) (next : Store) (k : Taken st l next) → (l.subject_sort ≡ sort.Literal → ⊥) → Kept st
+pub kept_new : (st : Store) (l : LineState) (next : Store) (k : Taken st l next) → (l.subject_sort ≡ sort.Literal → ⊥) → Kept st
     → is_held st.triples (record { s = k.s; p = k.p; o = k.o; at = l.at }) ≡ false → Kept (store_of (third_store st l).names (third_store st l).labels (st.triples ++ record { s = k.s; p = k.p; o = k.o; at = l.at } ∷ []))
 kept_new st l next k node kept absent =
     let t : Triple = record { s = k.s; p = k.p; o = k.o; at = l.at } in

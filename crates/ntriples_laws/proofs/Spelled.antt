@@ -31,7 +31,7 @@ use Rattle.ntriples_laws.proofs.Canon.{IriChars, AllLow, inside_is, not_slash, e
 use Rattle.ntriples_laws.proofs.Good.{GoodIri, GoodText, GoodTag}
 
 -- patterns of one length
-abbrev size : Pattern → ℕ
+abbrev pub size : Pattern → ℕ
 size Never = 0
 size Nothing = 0
 size (One rs) = 1
@@ -39,7 +39,7 @@ size (Then p q) = size p + size q
 size (Either p q) = size p
 size (Many p) = 0
 
-abbrev is_sized : Pattern → Bool
+abbrev pub is_sized : Pattern → Bool
 is_sized Never = true
 is_sized Nothing = true
 is_sized (One rs) = true
@@ -47,7 +47,7 @@ is_sized (Then p q) = is_sized p && is_sized q
 is_sized (Either p q) = (size p == size q) && (is_sized p && is_sized q)
 is_sized (Many p) = false
 
-sized : (p : Pattern) (s : List ℕ) → is_sized p ≡ true → Matches p s → length s ≡ size p
+pub sized : (p : Pattern) (s : List ℕ) → is_sized p ≡ true → Matches p s → length s ≡ size p
 sized Never s h m = absurd m
 sized Nothing s h m = ap length m
 sized (One rs) s h (c, e, w) = ap length e
@@ -57,10 +57,10 @@ sized (Either p q) s h (inr m) = let both = and_parts (size p == size q) (is_siz
     sized q s (and_parts (is_sized p) (is_sized q) both.1).1 m ∙ sym (eqb-true (size p) (size q) both.0)
 sized (Many p) s h m = absurd (false≢true h)
 
-one_char : (x c : ℕ) → within ((x, x) ∷ []) c ≡ true → c ≡ x
+pub one_char : (x c : ℕ) → within ((x, x) ∷ []) c ≡ true → c ≡ x
 one_char x c h = grind (arith, nat_tests, h)
 
-char_is : (x : ℕ) (s : List ℕ) → Matches (char x) s → s ≡ x ∷ []
+pub char_is : (x : ℕ) (s : List ℕ) → Matches (char x) s → s ≡ x ∷ []
 char_is x s (c, e, w) = e ∙ ap (λ y. y ∷ []) (one_char x c w)
 
 -- a token between two marks
@@ -69,7 +69,7 @@ pub record Between (a b : ℕ) (p : Pattern) (chars : List ℕ) : Type 0 where
   pub is : chars ≡ a ∷ (inner ++ b ∷ [])
   pub matches : Matches p inner
 
-between : (a b : ℕ) (p : Pattern) (chars : List ℕ) → Matches (Then (char a) (Then p (char b))) chars → Between a b p chars
+pub between : (a b : ℕ) (p : Pattern) (chars : List ℕ) → Matches (Then (char a) (Then p (char b))) chars → Between a b p chars
 between a b p chars (x, y, e, m, (u, v, f, n, o)) = record {
   inner = u;
   is = e ∙ ap₂ (λ s t. s ++ t) (char_is a x m) (f ∙ ap (λ t. u ++ t) (char_is b v o));
@@ -77,34 +77,34 @@ between a b p chars (x, y, e, m, (u, v, f, n, o)) = record {
 }
 
 -- lists of four and of eight
-record Four (s : List ℕ) : Type 0 where
-  a : ℕ
-  b : ℕ
-  c : ℕ
-  d : ℕ
-  rest : List ℕ
-  is : s ≡ a ∷ b ∷ c ∷ d ∷ rest
-  left : length s ≡ length rest + 4
+pub record Four (s : List ℕ) : Type 0 where
+  pub a : ℕ
+  pub b : ℕ
+  pub c : ℕ
+  pub d : ℕ
+  pub rest : List ℕ
+  pub is : s ≡ a ∷ b ∷ c ∷ d ∷ rest
+  pub left : length s ≡ length rest + 4
 
-four_of : (s : List ℕ) → 4 ≤ length s → Four s
+pub four_of : (s : List ℕ) → 4 ≤ length s → Four s
 four_of (a ∷ b ∷ c ∷ d ∷ rest) h = record { a = a; b = b; c = c; d = d; rest = rest; is = refl; left = omega arith }
 four_of [] h = absurd (omega (arith, h))
 four_of (a ∷ []) h = absurd (omega (arith, h))
 four_of (a ∷ b ∷ []) h = absurd (omega (arith, h))
 four_of (a ∷ b ∷ c ∷ []) h = absurd (omega (arith, h))
 
-nothing_left : (s : List ℕ) → length s ≡ 0 → s ≡ []
+pub nothing_left : (s : List ℕ) → length s ≡ 0 → s ≡ []
 nothing_left [] h = refl
 nothing_left (c ∷ s) h = absurd (omega (arith, h))
 
 -- an escape by number: one character, of which it takes at least six
-record Counted (s rest : List ℕ) : Type 0 where
-  char : ℕ
-  value : meaning.value (s ++ rest) ≡ (char_of char) ∷ meaning.value rest
-  bad : meaning.bad (s ++ rest) ≡ (is_excluded (char_of char) || meaning.bad rest)
-  wide : 6 ≤ width s
+pub record Counted (s rest : List ℕ) : Type 0 where
+  pub char : ℕ
+  pub value : meaning.value (s ++ rest) ≡ (char_of char) ∷ meaning.value rest
+  pub bad : meaning.bad (s ++ rest) ≡ (is_excluded (char_of char) || meaning.bad rest)
+  pub wide : 6 ≤ width s
 
-counted_four : (s rest : List ℕ) (a b c d : ℕ) → s ≡ 0x5C ∷ 0x75 ∷ a ∷ b ∷ c ∷ d ∷ [] → Counted s rest
+pub counted_four : (s rest : List ℕ) (a b c d : ℕ) → s ≡ 0x5C ∷ 0x75 ∷ a ∷ b ∷ c ∷ d ∷ [] → Counted s rest
 counted_four s rest a b c d e = record {
   char = four_digits 0 a b c d;
   value = ap (λ t. meaning.value (t ++ rest)) e ∙ meaning.four a b c d rest;
@@ -112,7 +112,7 @@ counted_four s rest a b c d e = record {
   wide = omega (arith, ap length e, length_width s);
 }
 
-counted_eight : (s rest : List ℕ) (a b c d x y z w : ℕ) → s ≡ 0x5C ∷ 0x55 ∷ a ∷ b ∷ c ∷ d ∷ x ∷ y ∷ z ∷ w ∷ [] → Counted s rest
+pub counted_eight : (s rest : List ℕ) (a b c d x y z w : ℕ) → s ≡ 0x5C ∷ 0x55 ∷ a ∷ b ∷ c ∷ d ∷ x ∷ y ∷ z ∷ w ∷ [] → Counted s rest
 counted_eight s rest a b c d x y z w e = record {
   char = four_digits (four_digits 0 a b c d) x y z w;
   value = ap (λ t. meaning.value (t ++ rest)) e ∙ meaning.eight a b c d x y z w rest;
@@ -121,22 +121,22 @@ counted_eight s rest a b c d x y z w e = record {
 }
 
 -- a backslash, a mark and digits
-escape_is : (s a b x ds : List ℕ) (mark : ℕ) → s ≡ a ++ b → Matches (char 0x5C) a → b ≡ x ++ ds → Matches (char mark) x → s ≡ 0x5C ∷ mark ∷ ds
+pub escape_is : (s a b x ds : List ℕ) (mark : ℕ) → s ≡ a ++ b → Matches (char 0x5C) a → b ≡ x ++ ds → Matches (char mark) x → s ≡ 0x5C ∷ mark ∷ ds
 escape_is s a b x ds mark e m f n = e ∙ ap₂ (λ t u. t ++ u) (char_is 0x5C a m) (f ∙ ap (λ t. t ++ ds) (char_is mark x n))
 
-four_are : (ds : List ℕ) (q : Four ds) → length ds ≡ 4 → ds ≡ q.a ∷ q.b ∷ q.c ∷ q.d ∷ []
+pub four_are : (ds : List ℕ) (q : Four ds) → length ds ≡ 4 → ds ≡ q.a ∷ q.b ∷ q.c ∷ q.d ∷ []
 four_are ds q h = q.is ∙ ap (λ t. q.a ∷ q.b ∷ q.c ∷ q.d ∷ t) (nothing_left q.rest (omega (arith, h, q.left)))
 
-eight_are : (ds : List ℕ) (q : Four ds) (r : Four q.rest) → length ds ≡ 8 → ds ≡ q.a ∷ q.b ∷ q.c ∷ q.d ∷ r.a ∷ r.b ∷ r.c ∷ r.d ∷ []
+pub eight_are : (ds : List ℕ) (q : Four ds) (r : Four q.rest) → length ds ≡ 8 → ds ≡ q.a ∷ q.b ∷ q.c ∷ q.d ∷ r.a ∷ r.b ∷ r.c ∷ r.d ∷ []
 eight_are ds q r h = q.is ∙ ap (λ t. q.a ∷ q.b ∷ q.c ∷ q.d ∷ t) (four_are q.rest r (omega (arith, h, q.left)))
 
-of_four : (s rest ds : List ℕ) (q : Four ds) → length ds ≡ 4 → s ≡ 0x5C ∷ 0x75 ∷ ds → Counted s rest
+pub of_four : (s rest ds : List ℕ) (q : Four ds) → length ds ≡ 4 → s ≡ 0x5C ∷ 0x75 ∷ ds → Counted s rest
 of_four s rest ds q long e = counted_four s rest q.a q.b q.c q.d (e ∙ ap (λ t. 0x5C ∷ 0x75 ∷ t) (four_are ds q long))
 
-of_eight : (s rest ds : List ℕ) (q : Four ds) (r : Four q.rest) → length ds ≡ 8 → s ≡ 0x5C ∷ 0x55 ∷ ds → Counted s rest
+pub of_eight : (s rest ds : List ℕ) (q : Four ds) (r : Four q.rest) → length ds ≡ 8 → s ≡ 0x5C ∷ 0x55 ∷ ds → Counted s rest
 of_eight s rest ds q r long e = counted_eight s rest q.a q.b q.c q.d r.a r.b r.c r.d (e ∙ ap (λ t. 0x5C ∷ 0x55 ∷ t) (eight_are ds q r long))
 
-counted : (s rest : List ℕ) → Matches (Then (char 0x5C) uchar) s → Counted s rest
+pub counted : (s rest : List ℕ) → Matches (Then (char 0x5C) uchar) s → Counted s rest
 counted s rest (a, b, e, m, inl (x, ds, f, n, o)) =
     let long : length ds ≡ 4 = sized scalar4 ds refl o in
     of_four s rest ds (four_of ds (omega (arith, long))) long (escape_is s a b x ds 0x75 e m f n)
@@ -145,25 +145,25 @@ counted s rest (a, b, e, m, inr (x, ds, f, n, o)) =
     let q = four_of ds (omega (arith, long)) in
     of_eight s rest ds q (four_of q.rest (omega (arith, long, q.left))) long (escape_is s a b x ds 0x55 e m f n)
 
-not_excluded : (c : ℕ) → is_excluded c ≡ false → within iri_chars c ≡ true
+pub not_excluded : (c : ℕ) → is_excluded c ≡ false → within iri_chars c ≡ true
 not_excluded c h = by (within iri_chars c) h
   where
     by : (b : Bool) → not b ≡ false → b ≡ true
     by true h = refl
     by false h = absurd (false≢true (sym h))
 
-char_scalar : (n : ℕ) → scalar (char_of n) ≡ true
+pub char_scalar : (n : ℕ) → scalar (char_of n) ≡ true
 char_scalar n = cond_both (scalar n) n 0xFFFD (λ x. scalar x ≡ true) (λ e. e) (λ e. refl)
 
 -- The value of what is between the marks: its characters, and its width, with escapes too, which is no greater than it was.
-record Valued (s : List ℕ) : Type 0 where
-  good : scalars (meaning.value s) ≡ true
-  narrow : width (escaped (meaning.value s)) ≤ width s
+pub record Valued (s : List ℕ) : Type 0 where
+  pub good : scalars (meaning.value s) ≡ true
+  pub narrow : width (escaped (meaning.value s)) ≤ width s
 
-escaped_wide : (c : ℕ) → width (escape_by c (escape_letter c)) ≤ 4
+pub escaped_wide : (c : ℕ) → width (escape_by c (escape_letter c)) ≤ 4
 escaped_wide c = escape_cases c (λ o. width (escape_by c o) ≤ 4) (λ e. omega arith) (λ e. omega arith) (λ e. omega arith) (λ e. omega arith) (λ e f. omega (arith, (len_utf8_bounds c).1))
 
-valued_counted : (s rest : List ℕ) → Counted s rest → Valued rest → Valued (s ++ rest)
+pub valued_counted : (s rest : List ℕ) → Counted s rest → Valued rest → Valued (s ++ rest)
 valued_counted s rest r v =
     let c : ℕ = char_of r.char in
     let wide : width (escape_by c (escape_letter c)) ≤ 4 = escaped_wide c in
@@ -176,7 +176,7 @@ valued_counted s rest r v =
     }
 
 -- a character that stands for itself
-valued_char : (s rest : List ℕ) (c : ℕ) → s ≡ c ∷ [] → (c == 0x5C) ≡ false → width (escape_by c (escape_letter c)) ≤ len_utf8 c → scalar c ≡ true → Valued rest → Valued (s ++ rest)
+pub valued_char : (s rest : List ℕ) (c : ℕ) → s ≡ c ∷ [] → (c == 0x5C) ≡ false → width (escape_by c (escape_letter c)) ≤ len_utf8 c → scalar c ≡ true → Valued rest → Valued (s ++ rest)
 valued_char s rest c e ne le sc v = subst (λ t. Valued (t ++ rest)) (sym e) (by (meaning.char c rest ne))
   where
     by : meaning.value (c ∷ rest) ≡ c ∷ meaning.value rest → Valued (c ∷ rest)
@@ -189,7 +189,7 @@ valued_char s rest c e ne le sc v = subst (λ t. Valued (t ++ rest)) (sym e) (by
         }
 
 -- the characters of an IRI are those that it may have
-iri_parts : (parts : List (List ℕ)) → Each (Matches (Either iri_char (Then (char 0x5C) uchar))) parts → meaning.bad (joined parts) ≡ false → IriChars (meaning.value (joined parts))
+pub iri_parts : (parts : List (List ℕ)) → Each (Matches (Either iri_char (Then (char 0x5C) uchar))) parts → meaning.bad (joined parts) ≡ false → IriChars (meaning.value (joined parts))
 iri_parts [] h ok = subst IriChars (sym meaning.none) tt
 iri_parts (s ∷ parts) (inl (c, e, w), h) ok =
     let whole : s ++ joined parts ≡ c ∷ joined parts = ap (λ t. t ++ joined parts) e in
@@ -205,53 +205,53 @@ pub scalars_parts : (a b : List ℕ) → scalars (a ++ b) ≡ true → (scalars 
 scalars_parts [] b h = (refl, h)
 scalars_parts (c ∷ a) b h = let both = and_parts (scalar c) (scalars (a ++ b)) h in let rest = scalars_parts a b both.1 in (and_from (scalar c) (scalars a) both.0 rest.0, rest.1)
 
-first_scalar : (s : List ℕ) (c : ℕ) → s ≡ c ∷ [] → scalars s ≡ true → scalar c ≡ true
+pub first_scalar : (s : List ℕ) (c : ℕ) → s ≡ c ∷ [] → scalars s ≡ true → scalar c ≡ true
 first_scalar s c e h = (and_parts (scalar c) true (ap scalars (sym e) ∙ h)).0
 
-plain_escape : (rs : List (ℕ × ℕ)) (c : ℕ) → within rs c ≡ true → within rs 0x22 ≡ false → within rs 0x5C ≡ false → within rs 0xA ≡ false → within rs 0xD ≡ false → width (escape_by c (escape_letter c)) ≤ len_utf8 c
+pub plain_escape : (rs : List (ℕ × ℕ)) (c : ℕ) → within rs c ≡ true → within rs 0x22 ≡ false → within rs 0x5C ≡ false → within rs 0xA ≡ false → within rs 0xD ≡ false → width (escape_by c (escape_letter c)) ≤ len_utf8 c
 plain_escape rs c w a b d f = escape_cases c (λ o. width (escape_by c o) ≤ len_utf8 c)
     (λ e. absurd (false≢true (sym a ∙ ap (within rs) (sym e) ∙ w))) (λ e. absurd (false≢true (sym b ∙ ap (within rs) (sym e) ∙ w)))
     (λ e. absurd (false≢true (sym d ∙ ap (within rs) (sym e) ∙ w))) (λ e. absurd (false≢true (sym f ∙ ap (within rs) (sym e) ∙ w)))
     (λ e g. omega arith)
 
-iri_valued : (parts : List (List ℕ)) → Each (Matches (Either iri_char (Then (char 0x5C) uchar))) parts → scalars (joined parts) ≡ true → Valued (joined parts)
+pub iri_valued : (parts : List (List ℕ)) → Each (Matches (Either iri_char (Then (char 0x5C) uchar))) parts → scalars (joined parts) ≡ true → Valued (joined parts)
 iri_valued [] h ok = record { good = ap scalars meaning.none; narrow = subst (λ x. width (escaped x) ≤ 0) (sym meaning.none) (omega arith) }
 iri_valued (s ∷ parts) (inl (c, e, w), h) ok = let both = scalars_parts s (joined parts) ok in
     valued_char s (joined parts) c e (not_slash c w) (plain_escape iri_chars c w refl refl refl refl) (first_scalar s c e both.0) (iri_valued parts h both.1)
 iri_valued (s ∷ parts) (inr m, h) ok = valued_counted s (joined parts) (counted s (joined parts) m) (iri_valued parts h (scalars_parts s (joined parts) ok).1)
 
-abbrev text_chars : List (ℕ × ℕ)
+abbrev pub text_chars : List (ℕ × ℕ)
 text_chars = (0x0, 0x9) ∷ (0xB, 0xC) ∷ (0xE, 0x21) ∷ (0x23, 0x5B) ∷ (0x5D, 0x10FFFF) ∷ []
 
-abbrev escape_chars : List (ℕ × ℕ)
+abbrev pub escape_chars : List (ℕ × ℕ)
 escape_chars = (0x74, 0x74) ∷ (0x62, 0x62) ∷ (0x6E, 0x6E) ∷ (0x72, 0x72) ∷ (0x66, 0x66) ∷ (0x22, 0x22) ∷ (0x27, 0x27) ∷ (0x5C, 0x5C) ∷ []
 
-is_not : (rs : List (ℕ × ℕ)) (c x : ℕ) → within rs c ≡ true → within rs x ≡ false → (c == x) ≡ false
+pub is_not : (rs : List (ℕ × ℕ)) (c x : ℕ) → within rs c ≡ true → within rs x ≡ false → (c == x) ≡ false
 is_not rs c x w h = false_from_ne_true (c == x) (λ e. false≢true (sym h ∙ ap (within rs) (sym (eqb-true c x e)) ∙ w))
 
-letter_scalar : (c : ℕ) → scalar c ≡ true → scalar (letter_value c) ≡ true
+pub letter_scalar : (c : ℕ) → scalar c ≡ true → scalar (letter_value c) ≡ true
 letter_scalar c h = cond_both (c == 0x74) 9 _ (λ x. scalar x ≡ true) (λ _. refl) (λ _.
     cond_both (c == 0x62) 8 _ (λ x. scalar x ≡ true) (λ _. refl) (λ _.
     cond_both (c == 0x6E) 10 _ (λ x. scalar x ≡ true) (λ _. refl) (λ _.
     cond_both (c == 0x72) 13 _ (λ x. scalar x ≡ true) (λ _. refl) (λ _.
     cond_both (c == 0x66) 12 c (λ x. scalar x ≡ true) (λ _. refl) (λ _. h)))))
 
-abbrev letter_test : ℕ → Bool
+abbrev pub letter_test : ℕ → Bool
 letter_test c = cond (within escape_chars c) (nat_le (width (escaped ((letter_value c) ∷ []))) 2) true
 
-letters_narrow : all_below 128 letter_test ≡ true
+pub letters_narrow : all_below 128 letter_test ≡ true
 letters_narrow = refl
 
-escape_below : (c : ℕ) → within escape_chars c ≡ true → c < 128
+pub escape_below : (c : ℕ) → within escape_chars c ≡ true → c < 128
 escape_below c h = grind (arith, nat_tests, h)
 
-letter_narrow : (c : ℕ) → within escape_chars c ≡ true → width (escape_by (letter_value c) (escape_letter (letter_value c))) ≤ 2
+pub letter_narrow : (c : ℕ) → within escape_chars c ≡ true → width (escape_by (letter_value c) (escape_letter (letter_value c))) ≤ 2
 letter_narrow c w =
     let small : nat_le (width (escaped ((letter_value c) ∷ []))) 2 ≡ true =
     sym (cond-true (within escape_chars c) (nat_le (width (escaped ((letter_value c) ∷ []))) 2) true w) ∙ below_at 128 letter_test c letters_narrow (escape_below c w) in
     subst (λ t. width t ≤ 2) (append-nil (escape_by (letter_value c) (escape_letter (letter_value c)))) (leb-true (width (escaped ((letter_value c) ∷ []))) 2 small)
 
-valued_letter : (s rest : List ℕ) (c : ℕ) → s ≡ 0x5C ∷ c ∷ [] → within escape_chars c ≡ true → scalar c ≡ true → Valued rest → Valued (s ++ rest)
+pub valued_letter : (s rest : List ℕ) (c : ℕ) → s ≡ 0x5C ∷ c ∷ [] → within escape_chars c ≡ true → scalar c ≡ true → Valued rest → Valued (s ++ rest)
 valued_letter s rest c e w sc v = subst (λ t. Valued (t ++ rest)) (sym e) (by (meaning.letter c rest (is_not escape_chars c 0x75 w refl) (is_not escape_chars c 0x55 w refl)))
   where
     by : meaning.value (0x5C ∷ c ∷ rest) ≡ (letter_value c) ∷ meaning.value rest → Valued (0x5C ∷ c ∷ rest)
@@ -266,7 +266,7 @@ valued_letter s rest c e w sc v = subst (λ t. Valued (t ++ rest)) (sym e) (by (
               (omega (arith, width-append (escape_by x (escape_letter x)) (escaped (meaning.value rest)), small, some, narrow));
         }
 
-text_valued : (parts : List (List ℕ)) → Each (Matches (Either text_char (Then (char 0x5C) (Either echar uchar)))) parts → scalars (joined parts) ≡ true → Valued (joined parts)
+pub text_valued : (parts : List (List ℕ)) → Each (Matches (Either text_char (Then (char 0x5C) (Either echar uchar)))) parts → scalars (joined parts) ≡ true → Valued (joined parts)
 text_valued [] h ok = record { good = ap scalars meaning.none; narrow = subst (λ x. width (escaped x) ≤ 0) (sym meaning.none) (omega arith) }
 text_valued (s ∷ parts) (inl (c, e, w), h) ok = let both = scalars_parts s (joined parts) ok in
     valued_char s (joined parts) c e (is_not text_chars c 0x5C w refl) (plain_escape text_chars c w refl refl refl refl) (first_scalar s c e both.0) (text_valued parts h both.1)
@@ -279,15 +279,15 @@ text_valued (s ∷ parts) (inr (a, b, e, m, inr n), h) ok = valued_counted s (jo
 pub inner_width : (a b : ℕ) (s : List ℕ) → a < 128 → b < 128 → width (a ∷ (s ++ b ∷ [])) ≡ width s + 2
 inner_width a b s h k = omega (arith, width-append s (b ∷ []), len_utf8_ascii a h, len_utf8_ascii b k)
 
-inner_scalars : (a b : ℕ) (s : List ℕ) → scalars (a ∷ (s ++ b ∷ [])) ≡ true → scalars s ≡ true
+pub inner_scalars : (a b : ℕ) (s : List ℕ) → scalars (a ∷ (s ++ b ∷ [])) ≡ true → scalars s ≡ true
 inner_scalars a b s h = (scalars_parts s (b ∷ []) (and_parts (scalar a) (scalars (s ++ b ∷ [])) h).1).0
 
-code_none : (b d : Bool) → cond b (Some G6) (cond d None (Some G5)) ≡ None → (b ≡ false) × (d ≡ true)
+pub code_none : (b d : Bool) → cond b (Some G6) (cond d None (Some G5)) ≡ None → (b ≡ false) × (d ≡ true)
 code_none true d e = absurd (cc e)
 code_none false true e = (refl, refl)
 code_none false false e = absurd (cc e)
 
-wider : (cs : List ℕ) → width cs ≤ width (escaped cs)
+pub wider : (cs : List ℕ) → width cs ≤ width (escaped cs)
 wider [] = omega arith
 wider (c ∷ cs) = omega (arith, wider cs, width-append (escape_by c (escape_letter c)) (escaped cs), one c)
   where
@@ -336,7 +336,7 @@ text_good chars t =
     }
 
 -- tags: letters stay letters in lower case
-abbrev Sets : (ℕ → ℕ) → Pattern → Type 0
+abbrev pub Sets : (ℕ → ℕ) → Pattern → Type 0
 Sets f Never = Unit {0}
 Sets f Nothing = Unit {0}
 Sets f (One rs) = (c : ℕ) → within rs c ≡ true → (within rs (f c) ≡ true) × (c < 128)
@@ -344,11 +344,11 @@ Sets f (Then p q) = Sets f p × Sets f q
 Sets f (Either p q) = Sets f p × Sets f q
 Sets f (Many p) = Sets f p
 
-low_append : (a b : List ℕ) → AllLow a → AllLow b → AllLow (a ++ b)
+pub low_append : (a b : List ℕ) → AllLow a → AllLow b → AllLow (a ++ b)
 low_append [] b h k = k
 low_append (c ∷ a) b h k = (h.0, low_append a b h.1 k)
 
-mapped_parts : (f : ℕ → ℕ) (p : Pattern) → ((s : List ℕ) → Matches p s → Matches p (map f s) × AllLow s) → (parts : List (List ℕ)) → Each (Matches p) parts
+pub mapped_parts : (f : ℕ → ℕ) (p : Pattern) → ((s : List ℕ) → Matches p s → Matches p (map f s) × AllLow s) → (parts : List (List ℕ)) → Each (Matches p) parts
     → Each (Matches p) (map (map f) parts) × (map f (joined parts) ≡ joined (map (map f) parts)) × AllLow (joined parts)
 mapped_parts f p go [] h = (tt, refl, tt)
 mapped_parts f p go (s ∷ parts) h =
@@ -356,7 +356,7 @@ mapped_parts f p go (s ∷ parts) h =
     let rest = mapped_parts f p go parts h.1 in
     ((one.0, rest.0), map-append f s (joined parts) ∙ ap (λ t. map f s ++ t) rest.1, low_append s (joined parts) one.1 rest.2)
 
-mapped : (f : ℕ → ℕ) (p : Pattern) → Sets f p → (s : List ℕ) → Matches p s → Matches p (map f s) × AllLow s
+pub mapped : (f : ℕ → ℕ) (p : Pattern) → Sets f p → (s : List ℕ) → Matches p s → Matches p (map f s) × AllLow s
 mapped f Never h s m = absurd m
 mapped f Nothing h s m = (ap (map f) m, subst AllLow (sym m) tt)
 mapped f (One rs) h s (c, e, w) = let k = h c w in ((f c, ap (map f) e, k.0), subst AllLow (sym e) (k.1, tt))
@@ -370,48 +370,48 @@ mapped f (Many p) h s (parts, e, each) =
     let x = mapped_parts f p (mapped f p h) parts each in
     ((map (map f) parts, ap (map f) e ∙ x.1, x.0), subst AllLow (sym e) x.2)
 
-abbrev closed : List (ℕ × ℕ) → ℕ → Bool
+abbrev pub closed : List (ℕ × ℕ) → ℕ → Bool
 closed rs c = cond (within rs c) (within rs (to_ascii_lowercase c)) true
 
-closed_at : (rs : List (ℕ × ℕ)) → all_below 128 (closed rs) ≡ true → (c : ℕ) → c < 128 → within rs c ≡ true → within rs (to_ascii_lowercase c) ≡ true
+pub closed_at : (rs : List (ℕ × ℕ)) → all_below 128 (closed rs) ≡ true → (c : ℕ) → c < 128 → within rs c ≡ true → within rs (to_ascii_lowercase c) ≡ true
 closed_at rs all c low w = sym (cond-true (within rs c) (within rs (to_ascii_lowercase c)) true w) ∙ below_at 128 (closed rs) c all low
 
-abbrev letters : List (ℕ × ℕ)
+abbrev pub letters : List (ℕ × ℕ)
 letters = (0x41, 0x5A) ∷ (0x61, 0x7A) ∷ []
 
-abbrev letters_digits : List (ℕ × ℕ)
+abbrev pub letters_digits : List (ℕ × ℕ)
 letters_digits = (0x30, 0x39) ∷ (0x41, 0x5A) ∷ (0x61, 0x7A) ∷ []
 
-letters_low : (c : ℕ) → within letters c ≡ true → c < 128
+pub letters_low : (c : ℕ) → within letters c ≡ true → c < 128
 letters_low c h = grind (arith, nat_tests, h)
 
-letters_digits_low : (c : ℕ) → within letters_digits c ≡ true → c < 128
+pub letters_digits_low : (c : ℕ) → within letters_digits c ≡ true → c < 128
 letters_digits_low c h = grind (arith, nat_tests, h)
 
-letter_set : Sets to_ascii_lowercase letter
+pub letter_set : Sets to_ascii_lowercase letter
 letter_set c h = (closed_at letters refl c (letters_low c h) h, letters_low c h)
 
-digit_set : Sets to_ascii_lowercase letter_or_digit
+pub digit_set : Sets to_ascii_lowercase letter_or_digit
 digit_set c h = (closed_at letters_digits refl c (letters_digits_low c h) h, letters_digits_low c h)
 
-sign_set : (x : ℕ) → x < 128 → to_ascii_lowercase x ≡ x → Sets to_ascii_lowercase (char x)
+pub sign_set : (x : ℕ) → x < 128 → to_ascii_lowercase x ≡ x → Sets to_ascii_lowercase (char x)
 sign_set x low same c h = let e = one_char x c h in (subst (λ y. within ((x, x) ∷ []) y ≡ true) (sym (ap to_ascii_lowercase e ∙ same ∙ sym e)) h, omega (arith, e, low))
 
-tag_sets : Sets to_ascii_lowercase (spelling kind.AtWord)
+pub tag_sets : Sets to_ascii_lowercase (spelling kind.AtWord)
 tag_sets = (sign_set 0x40 (omega arith) refl, ((letter_set, letter_set), (sign_set 0x2D (omega arith) refl, (digit_set, digit_set))))
 
-low_chars : (s : List ℕ) → AllLow s → AreChars s
+pub low_chars : (s : List ℕ) → AllLow s → AreChars s
 low_chars [] h = tt
 low_chars (c ∷ s) h = (omega (arith, h.0), low_chars s h.1)
 
-lower_low : (s : List ℕ) → AllLow s → AllLow (map to_ascii_lowercase s)
+pub lower_low : (s : List ℕ) → AllLow s → AllLow (map to_ascii_lowercase s)
 lower_low [] h = tt
 lower_low (c ∷ s) h = (lower_char c h.0, lower_low s h.1)
   where
     lower_char : (c : ℕ) → c < 128 → to_ascii_lowercase c < 128
     lower_char c h = grind (arith, nat_tests, h)
 
-lower_twice : (s : List ℕ) → map to_ascii_lowercase (map to_ascii_lowercase s) ≡ map to_ascii_lowercase s
+pub lower_twice : (s : List ℕ) → map to_ascii_lowercase (map to_ascii_lowercase s) ≡ map to_ascii_lowercase s
 lower_twice [] = refl
 lower_twice (c ∷ s) = ap₂ (λ x y. x ∷ y) (twice c) (lower_twice s)
   where
@@ -422,7 +422,7 @@ pub low_width : (s : List ℕ) → AllLow s → width s ≡ length s
 low_width [] h = refl
 low_width (c ∷ s) h = omega (arith, len_utf8_ascii c h.0, low_width s h.1)
 
-length_lower : (s : List ℕ) → length (map to_ascii_lowercase s) ≡ length s
+pub length_lower : (s : List ℕ) → length (map to_ascii_lowercase s) ≡ length s
 length_lower s = length-map s to_ascii_lowercase
 
 pub tag_good : (chars : List ℕ) → IsToken kind.AtWord chars → GoodTag (tag_text chars)

@@ -55,7 +55,7 @@ pub record Stepped (st next : Store) (t : Term) : Type 0 where
   pub few : length next.labels ≤ length st.labels + 1
   pub known : InStore st t → (next.names ≡ st.names) × (next.labels ≡ st.labels)
 
-same : {X : Type 0} (xs : List X) → Grows xs xs
+pub same : {X : Type 0} (xs : List X) → Grows xs xs
 same xs n v e = e
 
 pub literal_same : (a b : Literal) → same_literal a b ≡ true → a ≡ b
@@ -69,7 +69,7 @@ literal_same a b h =
 pub some_same : {X : Type 0} (a b : X) → Some a ≡ Some b → a ≡ b
 some_same a b e = cc
 
-not_there : {X : Type 0} (x : X) → None ≡ Some x → ⊥
+pub not_there : {X : Type 0} (x : X) → None ≡ Some x → ⊥
 not_there x e = cc
 
 pub iri_there : (names : NameLists) (text : List ℕ) (t : Term) → iri_term names text ≡ Some t → (iri_names names text ≡ with_iri names text) × (t ≡ term.Iri (iri_number names text))
@@ -184,14 +184,14 @@ pub record Taken (st : Store) (l : LineState) (next : Store) : Type 0 where
   pub room : has_room (third_store st l).triples (record { s = s; p = p; o = o; at = l.at }) ≡ true
   pub is : next ≡ record (third_store st l) { triples = with_triple (third_store st l).triples (record { s = s; p = p; o = o; at = l.at }) }
 
-limited_not : (c : Code) (a b : Store) → ◌≡◌ {A = Option Code × Store} (Some c, a) (None, b) → ⊥
+pub limited_not : (c : Code) (a b : Store) → ◌≡◌ {A = Option Code × Store} (Some c, a) (None, b) → ⊥
 limited_not c a b e = true≢false (ap (λ p. is_some p.0) e)
 
-by_term_some : (o : Option Term) (c : Code) (st next : Store) (f : Term → Option Code × Store) → by_term o (Some c, st) f ≡ (None, next) → (t : Term) × (o ≡ Some t) × (f t ≡ (None, next))
+pub by_term_some : (o : Option Term) (c : Code) (st next : Store) (f : Term → Option Code × Store) → by_term o (Some c, st) f ≡ (None, next) → (t : Term) × (o ≡ Some t) × (f t ≡ (None, next))
 by_term_some None c st next f e = absurd (limited_not c st next e)
 by_term_some (Some t) c st next f e = (t, refl, e)
 
-room_some : (st next : Store) (t : Triple) → with_room st t ≡ (None, next) → (has_room st.triples t ≡ true) × (next ≡ record st { triples = with_triple st.triples t })
+pub room_some : (st next : Store) (t : Triple) → with_room st t ≡ (None, next) → (has_room st.triples t ≡ true) × (next ≡ record st { triples = with_triple st.triples t })
 room_some st next t e = by (has_room st.triples t) e
   where
     by : (b : Bool) → ◌≡◌ {A = Option Code × Store} (cond b (None, record st { triples = with_triple st.triples t }) (Some L4, st)) (None, next) → (b ≡ true) × (next ≡ record st { triples = with_triple st.triples t })

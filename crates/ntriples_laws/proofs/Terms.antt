@@ -43,30 +43,30 @@ use Rattle.ntriples_laws.proofs.Good.{GoodIri, GoodText, GoodTag, GoodLiteral, E
 use Rattle.ntriples_laws.proofs.Spelled.{low_width, inner_width}
 
 -- a text between two marks
-marked : (a b : ℕ) (s : List ℕ) → a < 128 → b < 128 → encodes (a ∷ (s ++ b ∷ [])) ≡ a ∷ (encodes s ++ b ∷ [])
+pub marked : (a b : ℕ) (s : List ℕ) → a < 128 → b < 128 → encodes (a ∷ (s ++ b ∷ [])) ≡ a ∷ (encodes s ++ b ∷ [])
 marked a b s h k = ap₂ (λ x y. x ++ y) (encode_ascii a h) (encodes-append s (b ∷ []) ∙ ap (λ y. encodes s ++ y) (low_encodes (b ∷ []) (k, tt)))
 
-marked_scalars : (a b : ℕ) (s : List ℕ) → a < 128 → b < 128 → scalars s ≡ true → scalars (a ∷ (s ++ b ∷ [])) ≡ true
+pub marked_scalars : (a b : ℕ) (s : List ℕ) → a < 128 → b < 128 → scalars s ≡ true → scalars (a ∷ (s ++ b ∷ [])) ≡ true
 marked_scalars a b s h k good = and_from (scalar a) (scalars (s ++ b ∷ [])) (low_scalar a (omega (arith, h))) (scalars_append s (b ∷ []) good (low_scalars (b ∷ []) (k, tt)))
 
 -- an IRI in brackets
-iri_bytes : (text : List ℕ) (g : GoodIri text) → iri_text text ≡ encodes (iri_token g.chars)
+pub iri_bytes : (text : List ℕ) (g : GoodIri text) → iri_text text ≡ encodes (iri_token g.chars)
 iri_bytes text g = ap iri_text g.is ∙ sym (marked 0x3C 0x3E g.chars (omega arith) (omega arith))
 
-iri_scalars : (text : List ℕ) (g : GoodIri text) → scalars (iri_token g.chars) ≡ true
+pub iri_scalars : (text : List ℕ) (g : GoodIri text) → scalars (iri_token g.chars) ≡ true
 iri_scalars text g = marked_scalars 0x3C 0x3E g.chars (omega arith) (omega arith) g.good
 
-iri_item : (text : List ℕ) (g : GoodIri text) (rest : List ℕ) (at : ℕ)
+pub iri_item : (text : List ℕ) (g : GoodIri text) (rest : List ℕ) (at : ℕ)
     → items Between 0 (iri_token g.chars ++ 0x20 ∷ rest) at ≡ Item kind.IriRef (iri_token g.chars) at (items Between 0 rest (at + width (iri_token g.chars) + 1))
 iri_item text g rest at =
     let small : width g.chars + 2 ≤ 65536 = g.narrow in
     item_is kind.IriRef 0x3C (g.chars ++ 0x3E ∷ []) (0x20 ∷ rest) state.IriEnd at refl (iri_token_run g.chars g.allowed) refl
     (omega (arith, inner_width 0x3C 0x3E g.chars (omega arith) (omega arith), small)) refl
 
-iri_is : (text : List ℕ) (g : GoodIri text) → value_text (iri_token g.chars) ≡ text
+pub iri_is : (text : List ℕ) (g : GoodIri text) → value_text (iri_token g.chars) ≡ text
 iri_is text g = meaning.text (iri_token g.chars) ∙ ap (λ s. encodes (meaning.value s)) (inside_is 0x3C 0x3E g.chars) ∙ ap encodes (iri_value g.chars g.allowed) ∙ sym g.is
 
-iri_fine : (text : List ℕ) (g : GoodIri text) → iri_code (iri_token g.chars) ≡ None
+pub iri_fine : (text : List ℕ) (g : GoodIri text) → iri_code (iri_token g.chars) ≡ None
 iri_fine text g = meaning.code (iri_token g.chars)
     ∙ cond-false (meaning.bad (values.inside 1 (iri_token g.chars))) (Some G6) (cond (has_scheme (value_text (iri_token g.chars))) None (Some G5)) (ap meaning.bad (inside_is 0x3C 0x3E g.chars) ∙ iri_not_bad g.chars g.allowed)
     ∙ cond-true (has_scheme (value_text (iri_token g.chars))) None (Some G5) (ap has_scheme (iri_is text g) ∙ g.scheme)
@@ -108,22 +108,22 @@ iri_subject names n text e g = record {
 }
 
 -- a blank node's label
-abbrev label_token : ℕ → List ℕ
+abbrev pub label_token : ℕ → List ℕ
 label_token n = 0x5F ∷ 0x3A ∷ label n
 
-digits_of : (n : ℕ) → n < 2 ^ 64 → AllDigits 10 (decimal n)
+pub digits_of : (n : ℕ) → n < 2 ^ 64 → AllDigits 10 (decimal n)
 digits_of n h = (decimal_is_IsNumeral n h).0.1
 
-label_low : (n : ℕ) → n < 2 ^ 64 → AllLow (label_token n)
+pub label_low : (n : ℕ) → n < 2 ^ 64 → AllLow (label_token n)
 label_low n h = (omega arith, (omega arith, (omega arith, digits_low (decimal n) (digits_of n h))))
 
-label_item : (n : ℕ) → n < 2 ^ 64 → (rest : List ℕ) (at : ℕ)
+pub label_item : (n : ℕ) → n < 2 ^ 64 → (rest : List ℕ) (at : ℕ)
     → items Between 0 (label_token n ++ 0x20 ∷ rest) at ≡ Item kind.Blank (label_token n) at (items Between 0 rest (at + width (label_token n) + 1))
 label_item n h rest at =
     let few : length (decimal n) ≤ 20 = length-decimal-le 20 n (omega arith) (omega (arith, h)) h in
     item_is kind.Blank 0x5F (0x3A ∷ label n) (0x20 ∷ rest) state.BlankLabel at refl (label_token_run (decimal n) (digits_of n h)) refl (omega (arith, low_width (label_token n) (label_low n h), few)) refl
 
-label_is : (n : ℕ) → n < 2 ^ 64 → label_text (label_token n) ≡ label n
+pub label_is : (n : ℕ) → n < 2 ^ 64 → label_text (label_token n) ≡ label n
 label_is n h = low_encodes (label n) (label_low n h).1.1
 
 pub blank_subject : (names : NameLists) (n : ℕ) → n < 2 ^ 64 → SubjectRead names (term.Blank n)
@@ -222,28 +222,28 @@ blank_object names n h = record {
 }
 
 -- what stands behind a literal's quotation marks
-record EndingRead (v : Literal) : Type 0 where
-  chars : List ℕ
-  bytes : ending_text v ≡ encodes chars
-  good : scalars chars ≡ true
-  expected : Expect
-  dot : lines.next expected kind.Dot ≡ Some expect.End
-  stops : (rest : List ℕ) → Stops state.TextEnd (chars ++ 0x20 ∷ rest)
-  after : ℕ → ℕ
-  reads : (l : LineState) (h : Held) (rest : List ℕ) (at : ℕ) → judge (record l { expect = expect.Quoted; datatype = xsd_string; tag = [] }) h (items Between 0 (chars ++ 0x20 ∷ rest) at)
+pub record EndingRead (v : Literal) : Type 0 where
+  pub chars : List ℕ
+  pub bytes : ending_text v ≡ encodes chars
+  pub good : scalars chars ≡ true
+  pub expected : Expect
+  pub dot : lines.next expected kind.Dot ≡ Some expect.End
+  pub stops : (rest : List ℕ) → Stops state.TextEnd (chars ++ 0x20 ∷ rest)
+  pub after : ℕ → ℕ
+  pub reads : (l : LineState) (h : Held) (rest : List ℕ) (at : ℕ) → judge (record l { expect = expect.Quoted; datatype = xsd_string; tag = [] }) h (items Between 0 (chars ++ 0x20 ∷ rest) at)
       ≡ judge (record l { expect = expected; datatype = v.datatype; tag = v.tag }) h (items Between 0 rest (after at))
 
-is_string : (datatype : List ℕ) → is_xsd_string datatype ≡ true → datatype ≡ xsd_string
+pub is_string : (datatype : List ℕ) → is_xsd_string datatype ≡ true → datatype ≡ xsd_string
 is_string datatype h = bytes_same datatype xsd_string h
 
-string_is : is_xsd_string xsd_string ≡ true
+pub string_is : is_xsd_string xsd_string ≡ true
 unfolding xsd_string
 string_is = refl
 
-no_tag : (v : Literal) → v.tag ≡ [] → ending_text v ≡ datatype_text v.datatype
+pub no_tag : (v : Literal) → v.tag ≡ [] → ending_text v ≡ datatype_text v.datatype
 no_tag v e = ap (λ t. cond (length t == 0) (datatype_text v.datatype) (codes "@" ++ t)) e
 
-plain_ending : (v : Literal) → v.tag ≡ [] → is_xsd_string v.datatype ≡ true → EndingRead v
+pub plain_ending : (v : Literal) → v.tag ≡ [] → is_xsd_string v.datatype ≡ true → EndingRead v
 plain_ending v e x = record {
   chars = [];
   bytes = no_tag v e ∙ cond-true (is_xsd_string v.datatype) [] (codes "^^" ++ iri_text v.datatype) x;
@@ -255,7 +255,7 @@ plain_ending v e x = record {
   reads = λ l h rest at. ap₂ (λ d t. judge (record l { expect = expect.Quoted; datatype = d; tag = t }) h (items Between 0 rest (at + 1))) (sym (is_string v.datatype x)) (sym e);
 }
 
-typed_ending : (v : Literal) → v.tag ≡ [] → is_xsd_string v.datatype ≡ false → GoodIri v.datatype → EndingRead v
+pub typed_ending : (v : Literal) → v.tag ≡ [] → is_xsd_string v.datatype ≡ false → GoodIri v.datatype → EndingRead v
 typed_ending v e x g = record {
   chars = 0x5E ∷ 0x5E ∷ iri_token g.chars;
   bytes = no_tag v e ∙ cond-false (is_xsd_string v.datatype) [] (codes "^^" ++ iri_text v.datatype) x ∙ ap (λ t. 0x5E ∷ 0x5E ∷ t) (iri_bytes v.datatype g)
@@ -273,19 +273,19 @@ typed_ending v e x g = record {
       ∙ ap₂ (λ d t. judge (record l { expect = expect.Object; datatype = d; tag = t }) h (items Between 0 rest (far + width (iri_token g.chars) + 1))) (iri_is v.datatype g) (sym e);
 }
 
-at_stops : (q : State) → accepts q ≡ Some kind.AtWord → next q (class_at 0x20) ≡ None
+pub at_stops : (q : State) → accepts q ≡ Some kind.AtWord → next q (class_at 0x20) ≡ None
 at_stops state.AtLetters h = refl
 at_stops state.AtMore h = refl
 at_stops _ h = absurd (cc h)
 
-some_tag : (tag : List ℕ) → GoodTag tag → (length tag == 0) ≡ false
+pub some_tag : (tag : List ℕ) → GoodTag tag → (length tag == 0) ≡ false
 some_tag [] g = absurd (none_some (ap accepts (some_same state.AtStart g.run.last g.run.leads) ∙ g.run.accepts))
   where
     none_some : ◌≡◌ {A = Option Kind} None (Some kind.AtWord) → ⊥
     none_some e = cc e
 some_tag (c ∷ tag) g = ne_eqb (length (c ∷ tag)) 0 (λ e. omega (arith, e))
 
-tagged_ending : (v : Literal) → GoodTag v.tag → v.datatype ≡ rdf_lang_string → EndingRead v
+pub tagged_ending : (v : Literal) → GoodTag v.tag → v.datatype ≡ rdf_lang_string → EndingRead v
 tagged_ending v g e = record {
   chars = 0x40 ∷ v.tag;
   bytes = cond-false (length v.tag == 0) (datatype_text v.datatype) (codes "@" ++ v.tag) (some_tag v.tag g) ∙ sym (low_encodes (0x40 ∷ v.tag) (omega arith, g.low));
@@ -302,16 +302,16 @@ tagged_ending v g e = record {
       ∙ ap₂ (λ d t. judge (record l { expect = expect.Object; datatype = d; tag = t }) h (items Between 0 rest (at + width (0x40 ∷ v.tag) + 1))) (sym e) text;
 }
 
-ending_read : (v : Literal) → Ending v → EndingRead v
+pub ending_read : (v : Literal) → Ending v → EndingRead v
 ending_read v (inl (e, inl d)) = plain_ending v e (ap is_xsd_string d ∙ string_is)
 ending_read v (inl (e, inr g)) = elim (cases_Bool (is_xsd_string v.datatype)) [ inl x ↦ plain_ending v e x | inr x ↦ typed_ending v e x g ]
 ending_read v (inr (g, e)) = tagged_ending v g e
 
-text_is : (text : List ℕ) (g : GoodText text) → value_text (text_token g.chars) ≡ text
+pub text_is : (text : List ℕ) (g : GoodText text) → value_text (text_token g.chars) ≡ text
 text_is text g = meaning.text (text_token g.chars) ∙ ap (λ s. encodes (meaning.value s)) (inside_is 0x22 0x22 (escaped g.chars)) ∙ ap encodes (text_value g.chars) ∙ sym g.is
 
 -- with the quotation marks before a text
-text_bytes : (text more after : List ℕ) (g : GoodText text) → more ≡ encodes after → codes "\"" ++ (escaped text ++ (codes "\"" ++ more)) ≡ encodes (text_token g.chars ++ after)
+pub text_bytes : (text more after : List ℕ) (g : GoodText text) → more ≡ encodes after → codes "\"" ++ (escaped text ++ (codes "\"" ++ more)) ≡ encodes (text_token g.chars ++ after)
 text_bytes text more after g e =
     ap (λ x. 0x22 ∷ (x ++ 0x22 ∷ more)) (ap escaped g.is ∙ escaped_bytes g.chars)
     ∙ ap (λ x. 0x22 ∷ x) (sym (append_assoc (encodes (escaped g.chars)) (0x22 ∷ []) more))

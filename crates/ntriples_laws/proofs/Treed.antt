@@ -28,21 +28,21 @@ pub refused_not : (c : Code) (at : ℕ) (r : Records) → ◌≡◌ {A = Answer}
 refused_not c at r e = cc e
 
 -- the reader took these tokens, and a text may end behind them
-record Taken (e : Expect) (i : Items) : Type 0 where
-  tokens : List Kind
-  are : kinds i ≡ Some tokens
-  whole : may_end (run (Some e) tokens) ≡ true
+pub record Taken (e : Expect) (i : Items) : Type 0 where
+  pub tokens : List Kind
+  pub are : kinds i ≡ Some tokens
+  pub whole : may_end (run (Some e) tokens) ≡ true
 
 -- what is expected behind a token that is not refused
-expected : (o : Option Expect) (l m : LineState) (c : Option Code) → code_by o c ≡ None → o ≡ Some (moved m o).expect
+pub expected : (o : Option Expect) (l m : LineState) (c : Option Code) → code_by o c ≡ None → o ≡ Some (moved m o).expect
 expected None l m c e = absurd (cc e)
 expected (Some x) l m c e = refl
 
-between : (b : Bool) (a : Answer) (c : Code) (end : ℕ) (r : Records) → cond b a (Refuse c end) ≡ Read r → b ≡ true
+pub between : (b : Bool) (a : Answer) (c : Code) (end : ℕ) (r : Records) → cond b a (Refuse c end) ≡ Read r → b ≡ true
 between true a c end r e = refl
 between false a c end r e = absurd (refused_not c end r e)
 
-judge_takes : (i : Items) (l : LineState) (h : Held) (r : Records) → judge l h i ≡ Read r → Taken l.expect i
+pub judge_takes : (i : Items) (l : LineState) (h : Held) (r : Records) → judge l h i ≡ Read r → Taken l.expect i
 judge_takes (Stop end) l h r e = record { tokens = []; are = refl; whole = between _ _ _ end r e }
 judge_takes (Bad at) l h r e = absurd (refused_not _ at r e)
 judge_takes (TooLong at) l h r e = absurd (refused_not _ at r e)
@@ -69,7 +69,7 @@ read_has_tree bytes r e = by (decoded start bytes) refl e
         (d.0, (chars, f, t.are ∙ ap Some d.1))
     by (BadAt place) f e = absurd (refused_not _ place r e)
 
-chars_same : (a b : List ℕ) → Chars a ≡ Chars b → a ≡ b
+pub chars_same : (a b : List ℕ) → Chars a ≡ Chars b → a ≡ b
 chars_same a b e = cc
 
 pub one_tree : (bytes : List ℕ) (d e : Document) → IsTree bytes d → IsTree bytes e → d ≡ e

@@ -1,0 +1,11 @@
+pub mod Numbering
+pub mod Narrow
+pub mod Directives
+pub mod Telling
+pub mod Counting
+pub mod Refusal
+pub mod Escapes
+pub mod Lines
+pub mod Meaning
+pub mod Refusals
+pub mod Spelling
