@@ -1,7 +1,9 @@
-//! What the commands `check`, `orders` and `convert` print of records, and what is printed of a refusal.
+//! What the commands `check` and `orders` print of a pool of triples and `convert` of records, and what is printed of a
+//! refusal.
 #![tactic(auto)]
 
 mod codes;
+mod faults;
 mod printing;
 mod reports;
 
