@@ -10,7 +10,7 @@ mod writing;
 pub use archive::Archive;
 pub use crm_certify::CertKind;
 pub use faults::ArchiveFault;
-pub use inference_reports::{is_blank_name, report_explain};
+pub use inference_reports::{is_blank_name, is_node_name, report_explain};
 pub use order_core::Primitive;
 pub use record_reports::{report_check, report_orders};
 pub use report_base::laws::orders_of_records_are_a_set;

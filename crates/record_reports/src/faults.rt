@@ -1,5 +1,5 @@
 // The faults of triples that have numbers.
-ghost use Rattle.std.specs.Prelude.{◌≡◌, ◌++◌, OnOk, length};
+ghost use Rattle.std.specs.Prelude.{◌≡◌, ◌++◌, List, OnOk, length};
 ghost use Rattle.std.specs.Fmt.{decimal};
 ghost use Rattle.crm_outside.specs.Printing.{Prints, lines_from};
 ghost use Rattle.report_base.specs.Names.{date_kind_name as name_of};

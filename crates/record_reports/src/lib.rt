@@ -7,4 +7,5 @@ mod faults;
 mod printing;
 mod reports;
 
+pub use codes::code_name;
 pub use reports::{report_check, report_convert, report_orders, report_refusal};
