@@ -85,12 +85,7 @@ fn move_iri(text: &Names, names: &mut Names, n: u32) -> Result<Term, AllocError>
     placed(names.iri(iri))
 }
 
-fn move_literal(
-    alloc: Global,
-    text: &Names,
-    names: &mut Names,
-    n: u32,
-) -> Result<Term, AllocError>
+fn move_literal(alloc: Global, text: &Names, names: &mut Names, n: u32) -> Result<Term, AllocError>
     requires { name_count names.old < 262144 }
     ensures term { IfOk result (λ t. t ≡ Term.Lit (literal_number names.old (spec.literal_in text.now n))) }
     ensures names { OnOk result (names.new ≡ with_literal names.old (spec.literal_in text.now n)) }

@@ -25,11 +25,7 @@ pub fn too_many(archive: &Archive) -> Option<u32>
 }
 
 /// Prints the count of a file's triples, of which a session may not begin with so many.
-pub fn tell_too_many<W: Sink>(
-    alloc: Global,
-    count: u32,
-    out: &mut W,
-) -> Result<Status, ReportFault>
+pub fn tell_too_many<W: Sink>(alloc: Global, count: u32, out: &mut W) -> Result<Status, ReportFault>
     ensures { Writes W.written W.faults W.sure out.old out.new (passed (codes "L10") count) result }
 {
     tell_count(alloc, "L10", count as u64, out)
@@ -59,11 +55,7 @@ fn status_of(refused: bool) -> Status
 }
 
 // Answers the lines in order.
-fn answer_lines<W: Sink>(
-    session: Session,
-    text: &str,
-    out: &mut W,
-) -> Result<Status, ReportFault>
+fn answer_lines<W: Sink>(session: Session, text: &str, out: &mut W) -> Result<Status, ReportFault>
     requires lines { session.lines + length (spec.lines_at 0 text.now) ≤ 16384 }
     requires short { length text.now < 2 ^ 31 }
     ensures { Writes W.written W.faults W.sure out.old out.new (spec.replies session (spec.lines_at 0 text.now)) result }

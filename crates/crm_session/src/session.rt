@@ -107,10 +107,7 @@ impl Session {
     }
 
     // The session as the state behind a report that was written.
-    fn ended(
-        self,
-        written: Result<Status, ReportFault>,
-    ) -> Result<(Session, Answer), ReportFault>
+    fn ended(self, written: Result<Status, ReportFault>) -> Result<(Session, Answer), ReportFault>
         ensures { result ≡ spec.ended self written }
     {
         match written {
@@ -148,11 +145,7 @@ impl Session {
         self.counted().ended(told)
     }
 
-    fn ask<W: Sink>(
-        self,
-        question: Question,
-        out: &mut W,
-    ) -> Result<(Session, Answer), ReportFault>
+    fn ask<W: Sink>(self, question: Question, out: &mut W) -> Result<(Session, Answer), ReportFault>
         requires lines { self.lines < 16384 }
         requires apart { question.entry.left.now ≢ question.entry.right.now }
         ensures { Replies W.written W.faults W.sure out.old out.new (spec.reply_to self (Wanted.Ask question.entry.left.now question.entry.primitive question.entry.right.now) 0) result }
@@ -203,7 +196,10 @@ impl Session {
         } = self;
         let moved = move_triple(alloc, text, &mut names, blanks, begins, triple)?;
         let (blanks, told) = match pool.add(moved) {
-            Ok(Some(n)) => (blanks + labels_of(triple), tell_number(alloc, "added", n, out)),
+            Ok(Some(n)) => (
+                blanks + labels_of(triple),
+                tell_number(alloc, "added", n, out),
+            ),
             Ok(None) => (blanks, tell_held(out)),
             Err(PoolFault::Full) => unreachable!(),
             Err(PoolFault::Memory) => return Err(ReportFault::Memory),
