@@ -1,6 +1,5 @@
 -- The lines of a script, and the replies to them.
-use Rattle.std.specs.Prelude.{Bool, true, false, ℕ, ◌+◌, ◌++◌, ◌==◌, nat_lt, cond, if◌then◌else◌, List, [], ◌∷◌, length, codes}
-use Rattle.std.specs.Str.Lines.{strip_carriage_return}
+use Rattle.std.specs.Prelude.{Bool, true, ℕ, ◌+◌, ◌++◌, ◌==◌, nat_lt, cond, if◌then◌else◌, List, [], ◌∷◌, length, codes}
 use Rattle.std.specs.Str.Lossy.{utf8_valid_len}
 use Rattle.rdf_terms.specs.declared.triples.Records.{Records}
 use Rattle.report_base.specs.declared.status.Status.{Status}
@@ -21,9 +20,20 @@ abbrev pub lines_at : ℕ → List ℕ → List (ℕ × List ℕ)
 lines_at at [] = []
 lines_at at (b ∷ text) = cond (b == 10) ((at, []) ∷ lines_at (at + 1) text) (lengthened at b (lines_at (at + 1) text))
 
+-- without one carriage return at its end
+abbrev pub without_return : List ℕ → List ℕ
+without_return [] = []
+without_return (b ∷ []) = cond (b == 13) [] (b ∷ [])
+without_return (b ∷ c ∷ line) = b ∷ without_return (c ∷ line)
+
 abbrev pub status_of : Bool → Status
-status_of true = Findings
-status_of false = Done
+status_of refused = cond refused Findings Done
+
+-- whether a line was refused, behind one more
+abbrev pub refused_behind : Bool → Answer → Bool
+refused_behind refused Quiet = refused
+refused_behind refused Replied = refused
+refused_behind refused Refused = true
 
 abbrev pub status_behind : Answer → Status → Status
 status_behind Quiet s = s
@@ -37,7 +47,7 @@ followed r rest = record { status = status_behind r.answer rest.status; text = r
 abbrev pub replies : State → List (ℕ × List ℕ) → Report
 replies st [] = record { status = Done; text = [] }
 replies st (line ∷ more) =
-    followed (reply st (strip_carriage_return line.1) line.0) (replies (reply st (strip_carriage_return line.1) line.0).state more)
+    followed (reply st (without_return line.1) line.0) (replies (reply st (without_return line.1) line.0).state more)
 
 abbrev pub lines_report : State → List (ℕ × List ℕ) → Report
 lines_report st lines = if nat_lt 16384 (length lines) then passed (codes "L11") (length lines) else replies st lines

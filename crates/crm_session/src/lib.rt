@@ -3,6 +3,7 @@
 
 mod adding;
 mod counting;
+pub mod laws;
 mod lines;
 mod script;
 mod session;

@@ -1,9 +1,9 @@
 // The N-Triples of a line, and the lines of a script.
 ghost use Rattle.std.specs.Prelude.{◌≡◌, ◌+◌, ◌<◌, ◌≤◌, ◌^◌, ℕ, ◌∷◌, length, IfOk, IfErr};
-ghost use Rattle.std.specs.Str.Lines.{strip_carriage_return};
 ghost use Rattle.rdf_reading.specs.Answers.{Answer, IsRefusal};
 ghost use Rattle.ntriples_reader.specs.Feeding.{answer};
 ghost use Rattle.crm_session.specs.Scripts.{lines_at};
+ghost use Rattle.crm_session.specs.Scripts as spec;
 
 use ntriples_reader::{NtReader, ReadRefusal};
 use rdf_terms::Records;
@@ -39,7 +39,7 @@ pub(crate) fn cut_line(text: &str) -> (&str, &str)
 
 /// A line without the carriage return at its end, if it has one.
 pub(crate) fn without_return(line: &str) -> &str
-    ensures text { result.now ≡ strip_carriage_return line.now }
+    ensures text { result.now ≡ spec.without_return line.now }
     ensures shorter { length result.now ≤ length line.now }
 {
     match line.strip_suffix('\r') {

@@ -54,13 +54,22 @@ fn status_of(refused: bool) -> Status
     }
 }
 
+fn refused_behind(refused: bool, answer: Answer) -> bool
+    ensures { result ≡ spec.refused_behind refused answer }
+{
+    match answer {
+        Answer::Refused => true,
+        Answer::Quiet | Answer::Replied => refused,
+    }
+}
+
 // Answers the lines in order.
 fn answer_lines<W: Sink>(session: Session, text: &str, out: &mut W) -> Result<Status, ReportFault>
-    requires lines { session.lines + length (spec.lines_at 0 text.now) ≤ 16384 }
+    requires lines { begun.lines + length (spec.lines_at 0 text.now) ≤ 16384 }
     requires short { length text.now < 2 ^ 31 }
-    ensures { Writes W.written W.faults W.sure out.old out.new (spec.replies session (spec.lines_at 0 text.now)) result }
+    ensures { Writes W.written W.faults W.sure out.old out.new (spec.replies begun (spec.lines_at 0 text.now)) result }
 {
-    let mut session = session;
+    let mut session = begun;
     let mut refused = false;
     let mut rest = text;
     let mut at = 0;
@@ -68,7 +77,7 @@ fn answer_lines<W: Sink>(session: Session, text: &str, out: &mut W) -> Result<St
         let (line, behind) = cut_line(rest);
         let (next, answer) = session.line(without_return(line), at, out)?;
         session = next;
-        refused = refused || answer == Answer::Refused;
+        refused = refused_behind(refused, answer);
         at += line.len() as u64 + 1;
         rest = behind;
     }

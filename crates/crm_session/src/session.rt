@@ -167,13 +167,16 @@ impl Session {
         ensures { Replies W.written W.faults W.sure out.old out.new (spec.removing self n) result }
     {
         let mut session = self.counted();
-        let word = if session.pool.remove(n).is_some() {
-            "removed"
-        } else {
-            "absent"
-        };
-        let told = tell_number(session.alloc, word, n, out);
-        session.ended(told)
+        match session.pool.remove(n) {
+            Some(_) => {
+                let told = tell_number(session.alloc, "removed", n, out);
+                session.ended(told)
+            }
+            None => {
+                let told = tell_number(session.alloc, "absent", n, out);
+                session.ended(told)
+            }
+        }
     }
 
     // Adds a triple of a text, unless its three terms are held.
@@ -195,23 +198,32 @@ impl Session {
             lines,
         } = self;
         let moved = move_triple(alloc, text, &mut names, blanks, begins, triple)?;
-        let (blanks, told) = match pool.add(moved) {
-            Ok(Some(n)) => (
-                blanks + labels_of(triple),
-                tell_number(alloc, "added", n, out),
-            ),
-            Ok(None) => (blanks, tell_held(out)),
+        match pool.add(moved) {
+            Ok(Some(n)) => {
+                let session = Session {
+                    alloc,
+                    names,
+                    pool,
+                    blanks: blanks + labels_of(triple),
+                    lines: lines + 1,
+                };
+                let told = tell_number(alloc, "added", n, out);
+                session.ended(told)
+            }
+            Ok(None) => {
+                let session = Session {
+                    alloc,
+                    names,
+                    pool,
+                    blanks,
+                    lines: lines + 1,
+                };
+                let told = tell_held(out);
+                session.ended(told)
+            }
             Err(PoolFault::Full) => unreachable!(),
-            Err(PoolFault::Memory) => return Err(ReportFault::Memory),
-        };
-        let session = Session {
-            alloc,
-            names,
-            pool,
-            blanks,
-            lines: lines + 1,
-        };
-        session.ended(told)
+            Err(PoolFault::Memory) => Err(ReportFault::Memory),
+        }
     }
 
     fn add_one<W: Sink>(
