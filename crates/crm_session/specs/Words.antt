@@ -1,5 +1,5 @@
 -- What the lines of a session ask for.
-use Rattle.std.specs.Prelude.{ℕ, Bool, ◌&&◌, not, ◌^◌, ◌==◌, List, [], ◌∷◌, true, drop, codes, nat_eq, nat_lt, if◌then◌else◌, Option, Some, None}
+use Rattle.std.specs.Prelude.{◌≢◌, ⊤, ℕ, Bool, ◌&&◌, not, ◌^◌, ◌==◌, List, [], ◌∷◌, true, drop, codes, nat_eq, nat_lt, if◌then◌else◌, Option, Some, None}
 use Rattle.std.specs.Fmt.{decimal}
 use Rattle.std.specs.List.{after_first, before_first, starts_with}
 use Rattle.std.specs.Str.{bytes_eq}
@@ -33,6 +33,16 @@ meant line.Check = Check
 meant line.Orders = Orders
 meant (line.Ask q) = Ask q.left.now q.primitive q.right.now
 meant line.Other = Other
+
+-- a question asks of two words that are not the same
+abbrev pub IsApart : Line → Type 0
+IsApart line.Silent = ⊤
+IsApart (line.Add text) = ⊤
+IsApart (line.Remove n) = ⊤
+IsApart line.Check = ⊤
+IsApart line.Orders = ⊤
+IsApart (line.Ask q) = q.left.now ≢ q.right.now
+IsApart line.Other = ⊤
 
 -- a decimal number below 2^32 without leading zero
 abbrev pub is_number : List ℕ → Bool

@@ -53,7 +53,8 @@ fn number_in(word: &str) -> Option<u32>
 }
 
 fn read_removal<'a>(word: &'a str) -> Line<'a>
-    ensures { spec.meant result ≡ spec.removal word.now }
+    ensures line { spec.meant result ≡ spec.removal word.now }
+    ensures apart { spec.IsApart result }
 {
     match number_in(word) {
         Some(n) => Line::Remove(n),
@@ -73,7 +74,8 @@ fn cut_word(text: &str) -> (&str, &str)
 }
 
 fn asked<'a>(left: &'a str, code: &str, right: &'a str) -> Line<'a>
-    ensures { spec.meant result ≡ spec.asked left.now code.now right.now }
+    ensures line { spec.meant result ≡ spec.asked left.now code.now right.now }
+    ensures apart { spec.IsApart result }
 {
     if !(is_node_name(left) && is_node_name(right) && left != right) {
         return Line::Other;
@@ -89,7 +91,8 @@ fn asked<'a>(left: &'a str, code: &str, right: &'a str) -> Line<'a>
 }
 
 fn read_question<'a>(text: &'a str) -> Line<'a>
-    ensures { spec.meant result ≡ spec.question text.now }
+    ensures line { spec.meant result ≡ spec.question text.now }
+    ensures apart { spec.IsApart result }
 {
     let (left, rest) = cut_word(text);
     let (code, right) = cut_word(rest);
@@ -107,7 +110,8 @@ fn is_silent(text: &str) -> bool
 
 /// What a line asks for.
 pub(crate) fn read_line<'a>(text: &'a str) -> Line<'a>
-    ensures { spec.meant result ≡ spec.wanted text.now }
+    ensures line { spec.meant result ≡ spec.wanted text.now }
+    ensures apart { spec.IsApart result }
 {
     if is_silent(text) {
         return Line::Silent;

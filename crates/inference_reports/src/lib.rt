@@ -4,10 +4,10 @@
 mod asking;
 mod explaining;
 pub mod laws;
-mod naming;
+mod node_names;
 mod reasoning;
 
 pub use asking::is_blank_name;
 pub use explaining::report_explain;
-pub use naming::{is_iri, is_node_name};
+pub use node_names::{is_iri, is_node_name};
 pub use reasoning::report_reason;
