@@ -4,4 +4,4 @@ pub mod Named
 pub mod Returns
 pub mod Told
 pub mod Unchanged
-pub mod Words
+pub mod Spelling

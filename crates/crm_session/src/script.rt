@@ -64,7 +64,7 @@ fn refused_behind(refused: bool, answer: Answer) -> bool
 }
 
 // Answers the lines in order.
-fn answer_lines<W: Sink>(session: Session, text: &str, out: &mut W) -> Result<Status, ReportFault>
+fn answer_lines<W: Sink>(begun: Session, text: &str, out: &mut W) -> Result<Status, ReportFault>
     requires lines { begun.lines + length (spec.lines_at 0 text.now) ≤ 16384 }
     requires short { length text.now < 2 ^ 31 }
     ensures { Writes W.written W.faults W.sure out.old out.new (spec.replies begun (spec.lines_at 0 text.now)) result }

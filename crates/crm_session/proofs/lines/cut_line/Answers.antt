@@ -2,7 +2,7 @@ use Rattle.std.proofs.Common.{◌≡◌, ℕ, ◌+◌, ◌<◌, ◌≤◌, List,
 use Rattle.std.specs.List.{after_first, before_first, position_or_len}
 use Rattle.std.proofs.lemmas.List.{length-take-le}
 use Rattle.crm_session.specs.Scripts.{lines_at}
-use Rattle.crm_session.proofs.Words.{all_before, none_behind}
+use Rattle.crm_session.proofs.Spelling.{all_before, none_behind}
 use Rattle.crm_session.proofs.Cutting.{cut, is_feed}
 use Rattle.crm_session.proofs.lines.cut_line.Goals as goal
 

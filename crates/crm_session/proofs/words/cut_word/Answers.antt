@@ -1,6 +1,6 @@
 use Rattle.std.proofs.Common.{arith}
 use Rattle.crm_session.specs.Words.{is_space}
-use Rattle.crm_session.proofs.Words.{all_before, none_behind}
+use Rattle.crm_session.proofs.Spelling.{all_before, none_behind}
 use Rattle.crm_session.proofs.words.cut_word.Goals as goal
 
 pub returns-in-Some-clause-before : goal.returns-in-Some-clause-before

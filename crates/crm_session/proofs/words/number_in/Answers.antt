@@ -3,7 +3,7 @@ use Rattle.std.specs.Fmt.{decimal}
 use Rattle.std.proofs.lemmas.Bool.{true≢false}
 use Rattle.std.proofs.lemmas.Fmt.{parse-decimal}
 use Rattle.std.proofs.lemmas.Slice.Eq.{bytes_eq-Decides}
-use Rattle.crm_session.proofs.Words.{written, not_written}
+use Rattle.crm_session.proofs.Spelling.{written, not_written}
 use Rattle.crm_session.proofs.words.number_in.Goals as goal
 
 pub returns-in_default : goal.returns-in_default
