@@ -10,8 +10,8 @@ use Rattle.crm_session.specs.declared.session.Answer.TheVariants.{Replied, Refus
 use Rattle.crm_session.specs.Words.{Wanted}
 use Rattle.crm_session.specs.Words.Wanted.{Nothing, Add, Remove, Check, Orders, Ask, Other}
 use Rattle.crm_session.specs.States.{State, counted}
-use Rattle.crm_session.specs.Adding.{triple_among}
-use Rattle.crm_session.specs.Replies.{Reply, adding_by, adding_one, adding_read, removing_by, reply_to}
+use Rattle.crm_session.specs.Adding.{triple_among, with_triple_by}
+use Rattle.crm_session.specs.Replies.{Reply, adding_report, adding_one, says, adding_read, removing_by, reply_to}
 
 abbrev pub IsStill : State → Reply → Type 0
 IsStill st r = r.answer ≡ Refused → r.state ≡ counted st
@@ -19,7 +19,7 @@ IsStill st r = r.answer ≡ Refused → r.state ≡ counted st
 abbrev pub IsBehind : State → Reply → Type 0
 IsBehind st r = (r.state.lines ≡ (counted st).lines) × (st.used ≤ r.state.used)
 
-adding_still : (b : Bool) (st : State) (text : NameLists) (t : Triple) (begins : ℕ) → IsStill st (adding_by b st text t begins)
+adding_still : (b : Bool) (st : State) (text : NameLists) (t : Triple) (begins : ℕ) → IsStill st (says (adding_report (with_triple_by b st text t begins).1) (with_triple_by b st text t begins).0)
 adding_still true st text t begins e = refl
 adding_still false st text t begins e = absurd (let never : ⊥ = cc in never)
 
@@ -45,7 +45,7 @@ still st Orders at e = refl
 still st (Ask a p b) at e = refl
 still st Other at e = refl
 
-adding_behind : (b : Bool) (st : State) (text : NameLists) (t : Triple) (begins : ℕ) → IsBehind st (adding_by b st text t begins)
+adding_behind : (b : Bool) (st : State) (text : NameLists) (t : Triple) (begins : ℕ) → IsBehind st (says (adding_report (with_triple_by b st text t begins).1) (with_triple_by b st text t begins).0)
 adding_behind true st text t begins = (refl, omega arith)
 adding_behind false st text t begins = (refl, omega arith)
 

@@ -1,5 +1,5 @@
 -- A triple of another text, with its names among those of a session.
-use Rattle.std.specs.Prelude.{ℕ, ◌+◌, ◌++◌, [], ◌∷◌, cond, List, slice_get}
+use Rattle.std.specs.Prelude.{ℕ, ◌+◌, ◌++◌, [], ◌∷◌, Bool, true, false, cond, List, Option, Some, None, slice_get}
 use Rattle.std.specs.Option.{unwrap_or}
 use Rattle.rdf_terms.specs.declared.terms.Literal.{Literal}
 use Rattle.rdf_terms.specs.declared.terms.Term.{Term}
@@ -7,7 +7,8 @@ use Rattle.rdf_terms.specs.declared.terms.Term.TheVariants.{Iri, Blank, Lit}
 use Rattle.rdf_terms.specs.declared.terms.Triple.{Triple}
 use Rattle.rdf_terms.specs.Naming.{NameLists, iri_number, with_iri, literal_number, with_literal}
 use Rattle.rdf_terms.specs.Terms.{same_term}
-use Rattle.crm_session.specs.States.{State}
+use Rattle.triple_pool.specs.Pool.{is_held}
+use Rattle.crm_session.specs.States.{State, counted}
 
 -- the names of a number in a text; each triple that is read has them
 abbrev pub iri_in : NameLists → ℕ → List ℕ
@@ -70,3 +71,11 @@ added st text t begins = record {
   blanks = st.blanks + labels_of t;
   lines = st.lines + 1;
 }
+
+abbrev pub with_triple_by : Bool → State → NameLists → Triple → ℕ → State × Option ℕ
+with_triple_by true st text t begins = (counted st, None)
+with_triple_by false st text t begins = (added st text t begins, Some st.used)
+
+-- the state behind a line with the triple, and the triple's number; none where its three terms are held
+abbrev pub with_triple : State → NameLists → Triple → ℕ → State × Option ℕ
+with_triple st text t begins = with_triple_by (is_held (triple_among text st.names st.blanks begins t) st.pairs) st text t begins

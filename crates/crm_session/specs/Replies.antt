@@ -7,7 +7,7 @@ use Rattle.rdf_terms.specs.Naming.{NameLists}
 use Rattle.rdf_reading.specs.Answers.{Answer as ReadAnswer}
 use Rattle.rdf_reading.specs.Answers.Answer.{Refuse, Read}
 use Rattle.ntriples_reader.specs.Feeding.{answer}
-use Rattle.triple_pool.specs.Pool.{is_held, triple_of, without}
+use Rattle.triple_pool.specs.Pool.{triple_of, without}
 use Rattle.crm_outside.specs.Printing.{Printed, Broken}
 use Rattle.report_base.specs.declared.status.Status.{Status}
 use Rattle.report_base.specs.declared.status.Status.TheVariants as status
@@ -20,7 +20,7 @@ use Rattle.crm_session.specs.declared.session.Answer.TheVariants.{Quiet, Replied
 use Rattle.crm_session.specs.Words.{Wanted, wanted}
 use Rattle.crm_session.specs.Words.Wanted.{Nothing, Add, Remove, Check, Orders, Ask, Other}
 use Rattle.crm_session.specs.States.{State, counted}
-use Rattle.crm_session.specs.Adding.{added, triple_among}
+use Rattle.crm_session.specs.Adding.{with_triple}
 
 -- how a line is answered, the text of the reply, and the state behind the line
 pub record Reply : Type 0 where
@@ -59,13 +59,13 @@ refused_report code at = record { status = status.Refused; text = refusal_text c
 abbrev pub other_report : ℕ → Report
 other_report at = refused_report (codes "S1") at
 
-abbrev pub adding_by : Bool → State → NameLists → Triple → ℕ → Reply
-adding_by true st text t begins = says held_report (counted st)
-adding_by false st text t begins = says (number_report (codes "added") st.used) (added st text t begins)
+abbrev pub adding_report : Option ℕ → Report
+adding_report None = held_report
+adding_report (Some n) = number_report (codes "added") n
 
 -- a triple is added, unless its three terms are held
 abbrev pub adding : State → NameLists → Triple → ℕ → Reply
-adding st text t begins = adding_by (is_held (triple_among text st.names st.blanks begins t) st.pairs) st text t begins
+adding st text t begins = says (adding_report (with_triple st text t begins).1) (with_triple st text t begins).0
 
 -- exactly one triple
 abbrev pub adding_one : State → NameLists → List Triple → ℕ → ℕ → Reply

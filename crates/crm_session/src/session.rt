@@ -1,8 +1,10 @@
 // A session, line by line.
-ghost use Rattle.std.specs.Prelude.{◌≡◌, ◌≢◌, ◌+◌, ◌≤◌, ◌<◌, ◌^◌, length, IfOk};
+ghost use Rattle.std.specs.Prelude.{◌≡◌, ◌≢◌, ◌+◌, ◌≤◌, ◌<◌, ◌^◌, length, is_some, IfOk};
 ghost use Rattle.rdf_terms.specs.Naming.{NameLists};
 ghost use Rattle.rdf_reading.specs.Answers.{Answer as ReadAnswer, IsRefusal};
 ghost use Rattle.ntriples_reader.specs.Feeding.{answer};
+ghost use Rattle.triple_pool.specs.Pool.{triple_of, without};
+ghost use Rattle.crm_session.specs.Adding.{with_triple};
 ghost use Rattle.crm_session.specs.States.{beginning, counted};
 ghost use Rattle.crm_session.specs.Words.{Wanted};
 ghost use Rattle.crm_session.specs.Replies as spec;
@@ -162,21 +164,65 @@ impl Session {
         self.counted().ended(told)
     }
 
+    // Takes the triple of a number out, and says whether one had it.
+    fn take_out(&mut self, n: u32) -> bool
+        ensures found { result ≡ is_some (triple_of n self.old.pairs) }
+        ensures state { self.new ≡ record self.old { pairs = without n self.old.pairs } }
+    {
+        self.pool.remove(n).is_some()
+    }
+
     fn remove<W: Sink>(self, n: u32, out: &mut W) -> Result<(Session, Answer), ReportFault>
         requires { self.lines < 16384 }
         ensures { Replies W.written W.faults W.sure out.old out.new (spec.removing self n) result }
     {
         let mut session = self.counted();
-        match session.pool.remove(n) {
-            Some(_) => {
-                let told = tell_number(session.alloc, "removed", n, out);
-                session.ended(told)
-            }
-            None => {
-                let told = tell_number(session.alloc, "absent", n, out);
-                session.ended(told)
-            }
+        if session.take_out(n) {
+            let told = tell_number(session.alloc, "removed", n, out);
+            session.ended(told)
+        } else {
+            let told = tell_number(session.alloc, "absent", n, out);
+            session.ended(told)
         }
+    }
+
+    // The session behind a line with a triple of a text, and the number of the triple; None where its terms are held.
+    fn with_triple(
+        self,
+        text: &Names,
+        triple: Triple,
+        begins: u64,
+    ) -> Result<(Session, Option<u32>), AllocError>
+        requires { self.lines < 16384 }
+        ensures state { IfOk result (λ p. p.0 ≡ (with_triple self text.now triple begins).0) }
+        ensures number { IfOk result (λ p. p.1 ≡ (with_triple self text.now triple begins).1) }
+    {
+        let Session {
+            alloc,
+            mut names,
+            mut pool,
+            blanks,
+            lines,
+        } = self;
+        let moved = move_triple(alloc, text, &mut names, blanks, begins, triple)?;
+        let number = match pool.add(moved) {
+            Ok(number) => number,
+            Err(PoolFault::Full) => unreachable!(),
+            Err(PoolFault::Memory) => return Err(AllocError),
+        };
+        let labels = if number.is_some() {
+            labels_of(triple)
+        } else {
+            0
+        };
+        let session = Session {
+            alloc,
+            names,
+            pool,
+            blanks: blanks + labels,
+            lines: lines + 1,
+        };
+        Ok((session, number))
     }
 
     // Adds a triple of a text, unless its three terms are held.
@@ -190,39 +236,17 @@ impl Session {
         requires { self.lines < 16384 }
         ensures { Replies W.written W.faults W.sure out.old out.new (spec.adding self text.now triple begins) result }
     {
-        let Session {
-            alloc,
-            mut names,
-            mut pool,
-            blanks,
-            lines,
-        } = self;
-        let moved = move_triple(alloc, text, &mut names, blanks, begins, triple)?;
-        match pool.add(moved) {
-            Ok(Some(n)) => {
-                let session = Session {
-                    alloc,
-                    names,
-                    pool,
-                    blanks: blanks + labels_of(triple),
-                    lines: lines + 1,
-                };
+        let alloc = self.alloc;
+        let (session, number) = self.with_triple(text, triple, begins)?;
+        match number {
+            Some(n) => {
                 let told = tell_number(alloc, "added", n, out);
                 session.ended(told)
             }
-            Ok(None) => {
-                let session = Session {
-                    alloc,
-                    names,
-                    pool,
-                    blanks,
-                    lines: lines + 1,
-                };
+            None => {
                 let told = tell_held(out);
                 session.ended(told)
             }
-            Err(PoolFault::Full) => unreachable!(),
-            Err(PoolFault::Memory) => Err(ReportFault::Memory),
         }
     }
 
