@@ -127,4 +127,11 @@ impl Archive {
     {
         &self.records
     }
+
+    /// The names and the triples, taken out.
+    pub fn into_records(self) -> Records
+        ensures { result ≡ self }
+    {
+        self.records
+    }
 }

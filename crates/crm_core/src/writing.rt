@@ -1,5 +1,6 @@
 // What the commands write of a file that was read.
-ghost use Rattle.std.specs.Prelude.{◌≡◌, ◌≢◌, ◌≤◌, length};
+ghost use Rattle.std.specs.Prelude.{◌≡◌, ◌≢◌, ◌≤◌, length, IfOk};
+ghost use Rattle.triple_pool.specs.Pool.{number_from};
 ghost use Rattle.report_base.specs.Reports.{Writes};
 ghost use Rattle.record_reports.specs.RecordReports.{check_report, convert_report, orders_report, refusal_report};
 ghost use Rattle.inference_reports.specs.Explained.{explain_report};
@@ -17,7 +18,15 @@ use order_core::Primitive;
 use rdf_terms::Refusal;
 use record_reports::{report_check, report_convert, report_orders, report_refusal};
 use report_base::{ReportFault, Status};
-use std::alloc::Global;
+use std::alloc::{AllocError, Global};
+use triple_pool::TriplePool;
+
+// The triples of an archive, each under its number there.
+fn pool_of(alloc: Global, archive: &Archive) -> Result<TriplePool, AllocError>
+    ensures { IfOk result (λ p. p ≡ record { pairs = number_from 0 archive.now.triples; used = length archive.now.triples }) }
+{
+    TriplePool::build(alloc, &archive.records().triples)
+}
 
 /// Prints the count of triples, the line of each fault and the count of faults.
 ///
@@ -29,7 +38,8 @@ pub fn write_check<W: Sink>(
 ) -> Result<Status, ReportFault>
     ensures { Writes W.written W.faults W.sure out.old out.new (check_report archive.now) result }
 {
-    report_check(alloc, archive.records(), out)
+    let pool = pool_of(alloc, archive)?;
+    report_check(alloc, &archive.records().names, &pool, out)
 }
 
 /// Prints the extents, the dates and the orders.
@@ -42,7 +52,8 @@ pub fn write_orders<W: Sink>(
 ) -> Result<Status, ReportFault>
     ensures { Writes W.written W.faults W.sure out.old out.new (orders_report archive.now) result }
 {
-    report_orders(alloc, archive.records(), out)
+    let pool = pool_of(alloc, archive)?;
+    report_orders(alloc, &archive.records().names, &pool, out)
 }
 
 /// Prints the triples as canonical N-Triples, in document order.
@@ -99,7 +110,8 @@ pub fn write_explain<W: Sink>(
     requires { a.now ≢ b.now }
     ensures { Writes W.written W.faults W.sure out.old out.new (explain_report archive.now a.now p b.now) result }
 {
-    report_explain(alloc, archive.records(), a, p, b, out)
+    let pool = pool_of(alloc, archive)?;
+    report_explain(alloc, &archive.records().names, &pool, a, p, b, out)
 }
 
 /// Prints the extents, the units that periods produced, and then either the cycle that no placing satisfies, or the

@@ -6,10 +6,12 @@ use Rattle.std.specs.Str.{bytes_eq}
 use Rattle.std.specs.Str.Parse.{digits_value}
 use Rattle.rdf_terms.specs.declared.terms.Term.{Term}
 use Rattle.rdf_terms.specs.declared.terms.Term.TheVariants.{Iri, Blank}
+use Rattle.rdf_terms.specs.declared.terms.Triple.{Triple}
 use Rattle.rdf_terms.specs.declared.triples.Records.{Records}
 use Rattle.rdf_terms.specs.Naming.{NameLists}
 use Rattle.rdf_terms.specs.Terms.{same_term}
-use Rattle.boundary_orders.specs.Dossiers.{Findings}
+use Rattle.crm_type_check.specs.Relations.{faults_of}
+use Rattle.boundary_orders.specs.Dossiers.{Findings, findings_of}
 use Rattle.order_core.specs.Sets.{Orders}
 use Rattle.order_core.specs.declared.primitives.Primitive.{Primitive}
 use Rattle.reason_report.specs.declared.answers.Answer.{Answer}
@@ -91,6 +93,14 @@ named_report names found a p b (Some x) (Some y) = answer_report names found.ord
 abbrev pub periods_report : NameLists → Findings → List ℕ → Primitive → List ℕ → Report
 periods_report names found a p b = named_report names found a p b (period_named names found.extents a) (period_named names found.extents b)
 
--- whether a primitive holds from the period that a names to the one that b names
+-- whether a primitive holds from the period that a names to the one that b names, by what was found
+abbrev pub found_report : NameLists → Findings → List ℕ → Primitive → List ℕ → Report
+found_report names found a p b = within_limits found (periods_report names found a p b)
+
+-- by the triples of a pool, of which these are the pairs of a number and a triple
+abbrev pub explain_of : NameLists → List (ℕ × Triple) → List ℕ → Primitive → List ℕ → Report
+explain_of names pairs a p b = found_report names (findings_of names pairs (faults_of names pairs)) a p b
+
+-- and so by the triples of records, numbered from 0
 abbrev pub explain_report : Records → List ℕ → Primitive → List ℕ → Report
-explain_report r a p b = within_limits (findings_from r) (periods_report r.names (findings_from r) a p b)
+explain_report r a p b = found_report r.names (findings_from r) a p b

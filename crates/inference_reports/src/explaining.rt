@@ -11,10 +11,11 @@ use crm_outside::{PrintFault, Sink, print_text};
 use dossier_analysis::analyse;
 use order_analysis::Analysis;
 use order_core::Primitive;
-use rdf_terms::{Names, Records};
+use rdf_terms::Names;
 use reason_report::{Answer, print_answer};
-use report_base::{ReportFault, Status, append_extent, take_survey, tell_passed};
+use report_base::{ReportFault, Status, append_extent, survey_pool, tell_passed};
 use std::alloc::{AllocError, Global};
+use triple_pool::TriplePool;
 
 /// Whether a primitive holds from one period to another.
 #[derive(Clone, Copy)]
@@ -168,28 +169,31 @@ fn tell_words<W: Sink>(
 
 /// Prints the lines of the periods that `a` and `b` name, and whether a primitive holds from the one to the other in
 /// every placing that satisfies the orders: the chain that shows it with the line of each of its orders, or the placing
-/// that breaks it.
+/// that breaks it. An order names its triple by the number that the triple has in the pool.
 ///
 /// A word of `_:b` and a decimal number below 2^32 without leading zero names a blank node; any other is an IRI without
 /// brackets. `Usage` where a word names no period, which is printed; `Findings` where the primitive fails or the orders
-/// are inconsistent; `Refused` as with `report_orders`.
+/// are inconsistent; `Refused`, with the code and the count, where there are more than 2,048 extents, 2,048 dates or
+/// 65,536 orders.
 pub fn report_explain<W: Sink>(
     alloc: Global,
-    records: &Records,
+    names: &Names,
+    pool: &TriplePool,
     a: &str,
-    primitive: Primitive,
+    p: Primitive,
     b: &str,
     out: &mut W,
 ) -> Result<Status, ReportFault>
-    ensures { Writes W.written W.faults W.sure out.old out.new (spec.explain_report records.now a.now primitive b.now) result }
+    requires { a.now ≢ b.now }
+    ensures { Writes W.written W.faults W.sure out.old out.new (spec.explain_of names.now pool.now.pairs a.now p b.now) result }
 {
     let words = Words {
         left: a,
-        primitive,
+        primitive: p,
         right: b,
     };
-    match take_survey(alloc, records) {
-        Ok(survey) => tell_words(alloc, &records.names, &survey.dossier, words, out),
+    match survey_pool(alloc, names, pool) {
+        Ok(survey) => tell_words(alloc, names, &survey.dossier, words, out),
         Err(fault) => tell_passed(alloc, fault, out),
     }
 }

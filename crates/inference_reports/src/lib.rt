@@ -4,8 +4,10 @@
 mod asking;
 mod explaining;
 pub mod laws;
+mod node_names;
 mod reasoning;
 
 pub use asking::is_blank_name;
 pub use explaining::report_explain;
+pub use node_names::{is_iri, is_node_name};
 pub use reasoning::report_reason;

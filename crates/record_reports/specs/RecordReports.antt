@@ -1,5 +1,5 @@
 -- The reports of records: their faults, their orders, their triples, and the refusal of a file.
-use Rattle.std.specs.Prelude.{ℕ, ◌++◌, List, codes}
+use Rattle.std.specs.Prelude.{ℕ, ◌++◌, List, codes, map}
 use Rattle.std.specs.Fmt.{decimal}
 use Rattle.rdf_terms.specs.declared.terms.Code.{Code}
 use Rattle.rdf_terms.specs.declared.terms.Code.TheVariants as code
@@ -8,6 +8,8 @@ use Rattle.rdf_terms.specs.declared.terms.Triple.{Triple}
 use Rattle.rdf_terms.specs.declared.triples.Records.{Records}
 use Rattle.rdf_terms.specs.Naming.{NameLists}
 use Rattle.crm_outside.specs.Printing.{lines_from}
+use Rattle.crm_type_check.specs.Relations.{faults_of}
+use Rattle.boundary_orders.specs.Dossiers.{Findings, findings_of}
 use Rattle.ntriples_writer.specs.Lines.{canonical_line}
 use Rattle.report_base.specs.declared.status.Status.TheVariants.{Done, Refused}
 use Rattle.report_base.specs.Texts.{check_text, orders_text}
@@ -39,17 +41,33 @@ convert_text names triples = lines_from (λ _ t. canonical_line names t) 0 tripl
 abbrev pub refusal_text : List ℕ → ℕ → List ℕ
 refusal_text code at = codes "refused " ++ (code ++ (codes " at " ++ (decimal at ++ codes "\n")))
 
+-- the count of the triples of a pool and their faults, by their pairs of a number and a triple
+abbrev pub check_of : NameLists → List (ℕ × Triple) → Report
+check_of names pairs = record { status = status_by (faults_of names pairs); text = check_text (map (λ p. p.1) pairs) (faults_of names pairs) }
+
+abbrev pub dossier_of : NameLists → Findings → Report
+dossier_of names found = record { status = Done; text = orders_text names found }
+
+-- the extents, dates and orders that were found
+abbrev pub found_report : NameLists → Findings → Report
+found_report names found = within_limits found (dossier_of names found)
+
+-- and those of the triples of a pool
+abbrev pub orders_of : NameLists → List (ℕ × Triple) → Report
+orders_of names pairs = found_report names (findings_of names pairs (faults_of names pairs))
+
+-- so it is with the triples of records, numbered from 0
 abbrev pub check_report : Records → Report
 check_report r = record { status = status_by (faults_in r); text = check_text r.triples (faults_in r) }
 
-abbrev pub convert_report : Records → Report
-convert_report r = record { status = Done; text = convert_text r.names r.triples }
-
 abbrev pub dossier_report : Records → Report
-dossier_report r = record { status = Done; text = orders_text r.names (findings_from r) }
+dossier_report r = dossier_of r.names (findings_from r)
 
 abbrev pub orders_report : Records → Report
-orders_report r = within_limits (findings_from r) (dossier_report r)
+orders_report r = found_report r.names (findings_from r)
+
+abbrev pub convert_report : Records → Report
+convert_report r = record { status = Done; text = convert_text r.names r.triples }
 
 abbrev pub refusal_report : Refusal → Report
 refusal_report f = record { status = Refused; text = refusal_text (code_name f.code) f.at }

@@ -1,60 +1,64 @@
 // The reports.
-ghost use Rattle.std.specs.Prelude.{◌≡◌, IfOk, string_bytes};
-ghost use Rattle.report_base.specs.Reports.{Writes, findings_from};
-ghost use Rattle.record_reports.specs.RecordReports.{check_report, convert_report, dossier_report, orders_report, refusal_report};
+ghost use Rattle.std.specs.Prelude.{◌≡◌, IfOk, length, string_bytes};
+ghost use Rattle.report_base.specs.Reports.{Writes};
+ghost use Rattle.record_reports.specs.RecordReports.{check_of, convert_report, dossier_of, orders_of, refusal_report};
 ghost use Rattle.record_reports.specs.RecordReports as spec;
 
 use crate::codes::code_name;
+use crate::faults::print_faults;
 use crate::printing::print_triples;
 use boundary_orders::Dossier;
 use crm_outside::{Sink, print_text};
-use rdf_terms::{Records, Refusal};
-use report_base::{
-    ReportFault, Status, find_faults, print_check, print_dossier, status_of, take_survey,
-    tell_passed,
-};
+use crm_type_check::faults;
+use rdf_terms::{Names, Records, Refusal};
+use report_base::{ReportFault, Status, print_dossier, status_of, survey_pool, tell_passed};
 use std::alloc::{AllocError, Global};
+use triple_pool::TriplePool;
 
-/// Prints the count of triples, the line of each fault and the count of faults.
+/// Prints the count of triples, the line of each fault and the count of faults; a fault names its triple by the number
+/// that the triple has in the pool.
 ///
 /// `Findings` where there is a fault.
 pub fn report_check<W: Sink>(
     alloc: Global,
-    records: &Records,
+    names: &Names,
+    pool: &TriplePool,
     out: &mut W,
 ) -> Result<Status, ReportFault>
-    ensures { Writes W.written W.faults W.sure out.old out.new (check_report records.now) result }
+    ensures { Writes W.written W.faults W.sure out.old out.new (check_of names.now pool.now.pairs) result }
 {
-    let faults = find_faults(alloc, records)?;
-    print_check(alloc, &records.triples, &faults, out)?;
+    let faults = faults(alloc, names, pool)?;
+    print_faults(alloc, pool.len(), &faults, out)?;
     Ok(status_of(&faults))
 }
 
 fn tell_dossier<W: Sink>(
     alloc: Global,
-    records: &Records,
+    names: &Names,
     dossier: &Dossier,
     out: &mut W,
 ) -> Result<Status, ReportFault>
-    requires { dossier.now ≡ findings_from records.now }
-    ensures { Writes W.written W.faults W.sure out.old out.new (dossier_report records.now) result }
+    requires { dossier.now.orders.extents ≡ length dossier.now.extents }
+    ensures { Writes W.written W.faults W.sure out.old out.new (dossier_of names.now dossier.now) result }
 {
-    print_dossier(alloc, &records.names, dossier, out)?;
+    print_dossier(alloc, names, dossier, out)?;
     Ok(Status::Done)
 }
 
-/// Prints the extents, the dates and the orders.
+/// Prints the extents, the dates and the orders; an order names its triple by the number that the triple has in the
+/// pool.
 ///
 /// `Refused`, with the code and the count, where there are more than 2,048 extents, 2,048 dates or 65,536 orders.
 pub fn report_orders<W: Sink>(
     alloc: Global,
-    records: &Records,
+    names: &Names,
+    pool: &TriplePool,
     out: &mut W,
 ) -> Result<Status, ReportFault>
-    ensures { Writes W.written W.faults W.sure out.old out.new (orders_report records.now) result }
+    ensures { Writes W.written W.faults W.sure out.old out.new (orders_of names.now pool.now.pairs) result }
 {
-    match take_survey(alloc, records) {
-        Ok(survey) => tell_dossier(alloc, records, &survey.dossier, out),
+    match survey_pool(alloc, names, pool) {
+        Ok(survey) => tell_dossier(alloc, names, &survey.dossier, out),
         Err(fault) => tell_passed(alloc, fault, out),
     }
 }

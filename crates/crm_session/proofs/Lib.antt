@@ -1,0 +1,7 @@
+pub mod Answering
+pub mod Cutting
+pub mod Named
+pub mod Returns
+pub mod Told
+pub mod Unchanged
+pub mod Spelling

@@ -1,0 +1,12 @@
+use Rattle.std.proofs.Common.{◌≡◌, sym, ap, subst, ◌∙◌}
+use Rattle.report_base.specs.Reports.{Report, Writes}
+use Rattle.crm_session.specs.States.{State, counted}
+use Rattle.crm_session.proofs.Told.{told_by}
+use Rattle.record_reports.specs.RecordReports.{check_of}
+use Rattle.crm_session.proofs.session.Session.check.Goals as goal
+
+pub returns : goal.returns
+returns g c =
+    told_by g.W.Sink.written g.W.Sink.faults g.W.Sink.sure c.args.out.now c.report_check-told.new.out (check_of c.args.self.names c.args.self.pairs) (counted c.args.self) c.counted.result c.report_check-told.result c.ended.result
+    (subst (λ (s : State). Writes g.W.Sink.written g.W.Sink.faults g.W.Sink.sure c.args.out.now c.report_check-told.new.out (check_of s.names s.pairs) c.report_check-told.result) c.self.view_is c.report_check-told.ensures)
+    c.counted.ensures c.ended.ensures
