@@ -27,7 +27,7 @@ pub fn write_check<W: Sink>(
     archive: &Archive,
     out: &mut W,
 ) -> Result<Status, ReportFault>
-    ensures { Writes W.written W.faults W.sure out.old out.new (check_report archive.now) result }
+    ensures { Writes W.written W.faults W.sure out.old out.new (check_report archive.now.records) result }
 {
     report_check(alloc, archive.records(), out)
 }
@@ -40,7 +40,7 @@ pub fn write_orders<W: Sink>(
     archive: &Archive,
     out: &mut W,
 ) -> Result<Status, ReportFault>
-    ensures { Writes W.written W.faults W.sure out.old out.new (orders_report archive.now) result }
+    ensures { Writes W.written W.faults W.sure out.old out.new (orders_report archive.now.records) result }
 {
     report_orders(alloc, archive.records(), out)
 }
@@ -51,7 +51,7 @@ pub fn write_convert<W: Sink>(
     archive: &Archive,
     out: &mut W,
 ) -> Result<Status, ReportFault>
-    ensures { Writes W.written W.faults W.sure out.old out.new (convert_report archive.now) result }
+    ensures { Writes W.written W.faults W.sure out.old out.new (convert_report archive.now.records) result }
 {
     report_convert(alloc, archive.records(), out)
 }
@@ -76,7 +76,7 @@ pub fn write_reason<W: Sink>(
     archive: &Archive,
     out: &mut W,
 ) -> Result<Status, ReportFault>
-    ensures { Writes W.written W.faults W.sure out.old out.new (reason_report archive.now) result }
+    ensures { Writes W.written W.faults W.sure out.old out.new (reason_report archive.now.records) result }
 {
     report_reason(alloc, archive.records(), out)
 }
@@ -97,7 +97,7 @@ pub fn write_explain<W: Sink>(
     out: &mut W,
 ) -> Result<Status, ReportFault>
     requires { a.now ≢ b.now }
-    ensures { Writes W.written W.faults W.sure out.old out.new (explain_report archive.now a.now p b.now) result }
+    ensures { Writes W.written W.faults W.sure out.old out.new (explain_report archive.now.records a.now p b.now) result }
 {
     report_explain(alloc, archive.records(), a, p, b, out)
 }
@@ -111,7 +111,7 @@ pub fn write_matrix<W: Sink>(
     archive: &Archive,
     out: &mut W,
 ) -> Result<Status, ReportFault>
-    ensures { Writes W.written W.faults W.sure out.old out.new (matrix_report archive.now) result }
+    ensures { Writes W.written W.faults W.sure out.old out.new (matrix_report archive.now.records) result }
 {
     report_matrix(alloc, archive.records(), out)
 }
@@ -128,7 +128,7 @@ pub fn write_certificate<W: Sink>(
     kind: CertKind,
     out: &mut W,
 ) -> Result<Status, ReportFault>
-    ensures { WritesCertificate W.written W.faults W.sure out.old out.new archive.now kind result }
+    ensures { WritesCertificate W.written W.faults W.sure out.old out.new archive.now.records kind result }
 {
     report_certificate(alloc, archive.records(), kind, out)
 }
@@ -146,7 +146,7 @@ pub fn write_verdict<W: Sink>(
     out: &mut W,
 ) -> Result<Status, ReportFault>
     requires { length cert.now ≤ 67108864 }
-    ensures { WritesVerdict W.written W.faults W.sure out.old out.new archive.now cert.now result }
+    ensures { WritesVerdict W.written W.faults W.sure out.old out.new archive.now.records cert.now result }
 {
     report_verdict(alloc, archive.records(), cert, out)
 }
