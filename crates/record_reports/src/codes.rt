@@ -5,7 +5,7 @@ ghost use Rattle.record_reports.specs.RecordReports as spec;
 use rdf_terms::Code;
 
 /// The name of a code.
-pub(crate) fn code_name(code: Code) -> &'static str
+pub fn code_name(code: Code) -> &'static str
     ensures { result.now ≡ spec.code_name code }
 {
     match code {

@@ -5,4 +5,5 @@ mod codes;
 mod printing;
 mod reports;
 
+pub use codes::code_name;
 pub use reports::{report_check, report_convert, report_orders, report_refusal};
