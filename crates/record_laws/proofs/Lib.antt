@@ -1,0 +1,4 @@
+pub mod Members
+pub mod Owning
+pub mod Relating
+pub mod Faulted
