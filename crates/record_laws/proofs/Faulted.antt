@@ -11,12 +11,13 @@ use Rattle.crm_type_check.specs.declared.relation.Relation.{Relation}
 use Rattle.crm_type_check.specs.Meaning.{makes_relation}
 use Rattle.crm_type_check.specs.Faults.{declared_in, own_faults}
 use Rattle.crm_type_check.specs.Relations.{has_property, occurrence, parts_in, relation_of, relation_with, relation_by_parts, has_a1, kinds, kinds_of}
-use Rattle.record_laws.specs.Renaming.{IsRenamed, SayTheSame, renamed_relation}
+use Rattle.record_laws.specs.Renaming.{IsRenamed, renamed_relation}
+use Rattle.record_laws.proofs.OneWay.{OneWay}
 use Rattle.record_laws.proofs.Members.{map_numbered}
 use Rattle.record_laws.proofs.Owning.{declared_same, relation_same, own_same}
 use Rattle.record_laws.proofs.Relating.{AreAlike, part_same, with_same}
 
-module _ (names other : NameLists) (triples others : List Triple) (m : Term → Term) (same : SayTheSame names triples other others m) where
+module _ (names other : NameLists) (triples others : List Triple) (m : Term → Term) (same : OneWay names triples other others m) where
   part_numbered : (node : Term) (code : ℕ) → AreAlike m (occurrence (filter (has_property names node code) (map (λ p. p.1) (number_from 0 triples)))) (occurrence (filter (has_property other (m node) code) (map (λ p. p.1) (number_from 0 others))))
   part_numbered node code =
       subst (λ (ts : List Triple). AreAlike m (occurrence (filter (has_property names node code) ts)) (occurrence (filter (has_property other (m node) code) (map (λ p. p.1) (number_from 0 others))))) (sym (map_numbered 0 triples))

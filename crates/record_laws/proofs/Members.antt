@@ -8,18 +8,13 @@ use Rattle.rdf_terms.specs.Terms.{same_term, same_terms, is_held}
 use Rattle.rdf_terms.specs.Naming.{NameLists}
 use Rattle.rdf_terms.proofs.TermLemmas.{same_term-true, same_term-refl, same_terms-true}
 use Rattle.triple_pool.specs.Pool.{number_from}
-use Rattle.record_laws.specs.Renaming.{IsRenaming, IsRenamed, renamed, SayTheSame}
+use Rattle.record_laws.specs.Renaming.{IsRenamed, renamed}
+use Rattle.record_laws.proofs.OneWay.{OneWay, same_bool}
 
 -- one of the elements
 abbrev pub In : {X : Type 0} → X → List X → Type 0
 In x [] = ⊥
 In x (y ∷ ys) = (x ≡ y) ⊎ In x ys
-
-pub same_bool : (a b : Bool) → (a ≡ true → b ≡ true) → (b ≡ true → a ≡ true) → a ≡ b
-same_bool true true f g = refl
-same_bool true false f g = sym (f refl)
-same_bool false true f g = g refl
-same_bool false false f g = refl
 
 or_left : (a b : Bool) → a ≡ true → (a || b) ≡ true
 or_left a b h = rw h refl
@@ -52,7 +47,7 @@ same_terms-from t u s p o =
 pub held_in : (ts : List Triple) (t : Triple) → In t ts → is_held ts t ≡ true
 held_in ts t h = any_in (same_terms t) ts t h (same_terms-refl t)
 
-module _ (names other : NameLists) (triples others : List Triple) (m : Term → Term) (same : SayTheSame names triples other others m) where
+module _ (names other : NameLists) (triples others : List Triple) (m : Term → Term) (same : OneWay names triples other others m) where
   -- a triple of the one is, renamed, one of the other
   pub goes : (t : Triple) → In t triples → (u : Triple) × In u others × IsRenamed m t u
   goes t h =

@@ -19,7 +19,8 @@ use Rattle.triple_pool.specs.Pool.{number_from}
 use Rattle.crm_type_check.specs.declared.own.OwnFaults.{OwnFaults}
 use Rattle.crm_type_check.specs.Meaning.{passes, property_of, class_of, is_type, makes_relation}
 use Rattle.crm_type_check.specs.Faults.{Declared, declared_in, declares, misfits, misfits_range, domain_end, range_end, is_checked, is_class, is_date, has_c1, has_c2, has_c3, has_d1, has_r1, has_r2, has_r3, date_fault, fault_in_literal, own_faults}
-use Rattle.record_laws.specs.Renaming.{IsRenaming, IsRenamed, SayTheSame}
+use Rattle.record_laws.specs.Renaming.{IsRenamed}
+use Rattle.record_laws.proofs.OneWay.{Renames, OneWay}
 use Rattle.record_laws.proofs.Members.{any_same, any_numbered}
 
 pub passes_same : {X : Type 0} (p q : X → Bool) (o : Option X) → ((x : X) → p x ≡ q x) → passes p o ≡ passes q o
@@ -37,7 +38,7 @@ own_ext : {a b c d e f g a' b' c' d' e' f' g' : Bool} {h h' : Option DateFault} 
     → own_with a b c d e f g h ≡ own_with a' b' c' d' e' f' g' h'
 own_ext pa pb pc pd pe pf pg ph = cc
 
-module _ (names other : NameLists) (m : Term → Term) (is : IsRenaming names other m) where
+module _ (names other : NameLists) (m : Term → Term) (is : Renames names other m) where
   pub property_same : (t u : Term) → u ≡ m t → property_of other u ≡ property_of names t
   property_same t u e = ap (λ (x : Term). property_of other x) e ∙ ap (option_and_then prop_of_text) (is.iris t)
 
@@ -62,10 +63,10 @@ module _ (names other : NameLists) (m : Term → Term) (is : IsRenaming names ot
   pub subject_same : (t u : Triple) (node : Term) → IsRenamed m t u → same_term u.s (m node) ≡ same_term t.s node
   subject_same t u node r = ap (λ (x : Term). same_term x (m node)) r.s ∙ is.apart t.s node
 
-  domain_same : (p : Prop) (t u : Triple) → IsRenamed m t u → domain_end p u ≡ m (domain_end p t)
+  pub domain_same : (p : Prop) (t u : Triple) → IsRenamed m t u → domain_end p u ≡ m (domain_end p t)
   domain_same p t u r = ap (λ (x : Term). cond p.inverse x u.s) r.o ∙ ap (λ (x : Term). cond p.inverse (m t.o) x) r.s ∙ cond_same m p.inverse t.o t.s
 
-  range_same : (p : Prop) (t u : Triple) → IsRenamed m t u → range_end p u ≡ m (range_end p t)
+  pub range_same : (p : Prop) (t u : Triple) → IsRenamed m t u → range_end p u ≡ m (range_end p t)
   range_same p t u r = ap (λ (x : Term). cond p.inverse x u.o) r.s ∙ ap (λ (x : Term). cond p.inverse (m t.s) x) r.o ∙ cond_same m p.inverse t.s t.o
 
   declares_same : (t u : Triple) (node : Term) (test : ℕ → Bool) → IsRenamed m t u → declares other (m node) test u ≡ declares names node test t
@@ -120,7 +121,7 @@ module _ (names other : NameLists) (m : Term → Term) (is : IsRenaming names ot
           (ap (λ (o : Option Prop). has_r2 u o) p ∙ r2_same (property_of names t.p)) (ap (λ (o : Option Prop). has_r3 u o) p ∙ r3_same (property_of names t.p))
           (ap (λ (o : Option Prop). date_fault other u o) p ∙ date_same (property_of names t.p))
 
-  pub declared_same : (triples others : List Triple) → SayTheSame names triples other others m → (node : Term) (test : ℕ → Bool)
+  pub declared_same : (triples others : List Triple) → OneWay names triples other others m → (node : Term) (test : ℕ → Bool)
       → declared_in other (number_from 0 others) (m node) test ≡ declared_in names (number_from 0 triples) node test
   declared_same triples others same node test =
       any_numbered (declares other (m node) test) 0 others

@@ -16,7 +16,8 @@ use Rattle.crm_type_check.specs.declared.relation.Relation.{Relation}
 use Rattle.crm_type_check.specs.Meaning.{passes, property_of}
 use Rattle.crm_type_check.specs.Faults.{Declared, own_faults, is_sound}
 use Rattle.crm_type_check.specs.Relations.{has_property, occurrence, relation_by, relation_with}
-use Rattle.record_laws.specs.Renaming.{IsRenaming, IsRenamed, SayTheSame, renamed_relation}
+use Rattle.record_laws.specs.Renaming.{IsRenamed, renamed_relation}
+use Rattle.record_laws.proofs.OneWay.{Renames, OneWay}
 use Rattle.record_laws.proofs.Members.{In, goes, comes, same_terms-from}
 use Rattle.record_laws.proofs.Owning.{property_same, subject_same, own_same}
 
@@ -120,7 +121,7 @@ module _ (m : Term → Term) (apart : (t u : Term) → same_term (m t) (m u) ≡
       one x y (inr no) r = absurd no
   occurrence_same (t ∷ s ∷ ts) (u ∷ v ∷ us) dt du go come = tt
 
-module _ (names other : NameLists) (triples others : List Triple) (m : Term → Term) (same : SayTheSame names triples other others m) where
+module _ (names other : NameLists) (triples others : List Triple) (m : Term → Term) (same : OneWay names triples other others m) where
   has_property_same : (t u : Triple) (node : Term) (code : ℕ) → IsRenamed m t u → has_property other (m node) code u ≡ has_property names node code t
   has_property_same t u node code r =
       ap (λ (b : Bool). b && passes (λ p. p.code == code) (property_of other u.p)) (subject_same names other m same.renaming t u node r)

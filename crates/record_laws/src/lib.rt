@@ -1,6 +1,9 @@
-//! Laws over the definitions of faults: what triples say doesn't depend on their order, nor on the names of blank nodes.
+//! Laws: what is found in records doesn't depend on the order of their triples, nor on the names of blank nodes.
 #![tactic(auto)]
 
 mod laws;
 
-pub use laws::faults_are_of_what_is_said;
+pub use laws::{
+    consistency_is_of_what_is_said, extents_are_of_what_is_said, faults_are_of_what_is_said,
+    what_follows_is_of_what_is_said,
+};
