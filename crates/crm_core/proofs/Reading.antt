@@ -15,9 +15,10 @@ use Rattle.rdf_reading.specs.Answers.{Answer, IsRefusal}
 use Rattle.rdf_reading.specs.Answers.Answer.{Refuse, Read}
 use Rattle.rdf_reading.specs.declared.refusals.ReadRefusal.{ReadRefusal}
 use Rattle.rdf_reading.specs.declared.refusals.ReadRefusal.TheVariants as reading
+use Rattle.crm_core.specs.Contents.{Contents}
 use Rattle.crm_core.specs.declared.faults.ArchiveFault.{ArchiveFault}
 use Rattle.crm_core.specs.declared.faults.ArchiveFault.TheVariants.{Failed, Refused, Memory}
-use Rattle.crm_core.specs.Files.{file_answer, text_answer, archived, is_ntriples, IsAnswer, AnswersBytes, Answers, IsFed, IsFedWhole, IsLong, IsTakenLong, IsOut, IsReadOut}
+use Rattle.crm_core.specs.Files.{file_answer, text_answer, archived, is_ntriples, IsAnswer, AnswersBytes, Answers, IsFed, IsFedWhole, IsLong, IsTakenLong, IsOut, IsReadOut, HasLength, HasLengthOf}
 
 -- nothing was fed
 pub fed_nothing : (a : Option (List ℕ)) (p : List ℕ → Answer) → IsFed a a p p 0
@@ -56,28 +57,53 @@ still_open None b p q n f is = absurd (true≢false (sym is))
 still_open (Some x) None p q n f is = absurd f.taken
 still_open (Some x) (Some y) p q n f is = refl
 
-short_file : (b : Bool) (base : Option (List ℕ)) (bytes : List ℕ) → length bytes ≤ 67108864 → file_answer b base bytes ≡ text_answer b base bytes
+pub short_file : (b : Bool) (base : Option (List ℕ)) (bytes : List ℕ) → length bytes ≤ 67108864 → file_answer b base bytes ≡ text_answer b base bytes
 unfolding file_answer
 short_file b base bytes le = let low : nat_lt 67108864 (length bytes) ≡ false = grind (arith, nat_tests) in rw low refl
 
-long_file : (b : Bool) (base : Option (List ℕ)) (bytes : List ℕ) → 67108864 < length bytes → file_answer b base bytes ≡ Refuse L1 67108864
+pub long_file : (b : Bool) (base : Option (List ℕ)) (bytes : List ℕ) → 67108864 < length bytes → file_answer b base bytes ≡ Refuse L1 67108864
 unfolding file_answer
 long_file b base bytes lt = let high : nat_lt 67108864 (length bytes) ≡ true = grind (arith, nat_tests) in rw high refl
 
 -- all of a file was fed
-whole_answer : (b : Bool) (base : Option (List ℕ)) (xs : List ℕ) (left : Option (List ℕ)) (before now : List ℕ → Answer) → IsFedWhole (Some xs) left before now
+whole_answer : (b : Bool) (base : Option (List ℕ)) (xs : List ℕ) (left : Option (List ℕ)) (before now : List ℕ → Answer) (count : ℕ) → IsFedWhole (Some xs) left before now count
     → ((bytes : List ℕ) → before bytes ≡ text_answer b base bytes) → now [] ≡ file_answer b base xs
-whole_answer b base xs None before now w is = absurd w.fed.taken
-whole_answer b base xs (Some ys) before now w is =
+whole_answer b base xs None before now count w is = absurd w.fed.taken
+whole_answer b base xs (Some ys) before now count w is =
     let bytes = w.fed.bytes in
     let all : xs ≡ bytes = w.fed.taken ∙ ap (λ (l : List ℕ). bytes ++ l) w.end ∙ append-nil bytes in
     let le : length bytes ≤ 67108864 = omega (arith, w.short, w.fed.count) in
     w.fed.fed [] ∙ is (bytes ++ []) ∙ ap (text_answer b base) (append-nil bytes) ∙ sym (short_file b base bytes le) ∙ ap (file_answer b base) (sym all)
 
-pub told : (b : Bool) (base start left : Option (List ℕ)) (before now : List ℕ → Answer) (r : Result Records ArchiveFault) → IsFedWhole start left before now
+pub told : (b : Bool) (base start left : Option (List ℕ)) (before now : List ℕ → Answer) (count : ℕ) (r : Result Records ArchiveFault) → IsFedWhole start left before now count
     → ((bytes : List ℕ) → before bytes ≡ text_answer b base bytes) → IsAnswer r (now []) → IfSome start (λ xs. IsAnswer r (file_answer b base xs))
-told b base None left before now r w is p = tt
-told b base (Some xs) left before now r w is p = subst (IsAnswer r) (whole_answer b base xs left before now w is) p
+told b base None left before now count r w is p = tt
+told b base (Some xs) left before now count r w is p = subst (IsAnswer r) (whole_answer b base xs left before now count w is) p
+
+-- the bytes that were fed are all of the file
+pub whole_length : (start left : Option (List ℕ)) (before now : List ℕ → Answer) (count : ℕ) (r : Result Contents ArchiveFault) → IsFedWhole start left before now count
+    → IfOk r (λ a. a.length ≡ count) → HasLength start r
+whole_length None left before now count r w is = tt
+whole_length (Some xs) None before now count r w is = absurd w.fed.taken
+whole_length (Some xs) (Some ys) before now count (Err e) w is = tt
+whole_length (Some xs) (Some ys) before now count (Ok a) w is =
+    let bytes = w.fed.bytes in
+    let all : xs ≡ bytes = w.fed.taken ∙ ap (λ (l : List ℕ). bytes ++ l) w.end ∙ append-nil bytes in
+    is ∙ sym w.fed.count ∙ ap (λ (l : List ℕ). length l) (sym all)
+
+-- where feeding broke off there is no archive
+pub no_length : (start : Option (List ℕ)) (e : ArchiveFault) → HasLength start (Err e)
+no_length None e = tt
+no_length (Some xs) e = tt
+
+-- of a file that was opened
+pub length_of_opened : (o : Option Files) (name : List ℕ) (start : Option (List ℕ)) (r : Result Contents ArchiveFault) → IsOpened o name start → HasLength start r → HasLengthOf o name r
+length_of_opened None name start r opened h = tt
+length_of_opened (Some files) name start r opened h = subst (λ (s : Option (List ℕ)). HasLength s r) opened.1 h
+
+pub no_length_of : (o : Option Files) (name : List ℕ) (e : ArchiveFault) → HasLengthOf o name (Err e)
+no_length_of None name e = tt
+no_length_of (Some files) name e = no_length (files name) e
 
 -- what the reader says at its end
 pub finished : (a : Answer) (x : Result Records ReadRefusal) → IfOk x (λ r. a ≡ Read r) → IfErr x (λ e. IsRefusal e a) → IsAnswer (archived x) a

@@ -1,5 +1,5 @@
 -- What a file says, and how it is taken from a shelf.
-use Rattle.std.specs.Prelude.{◌≡◌, ◌≤◌, ℕ, Bool, true, false, List, ◌++◌, length, codes, nat_lt, nat_eq, if◌then◌else◌, Option, Some, None, Result, Ok, Err, ⊤, ◌⊎◌}
+use Rattle.std.specs.Prelude.{◌≡◌, ◌≤◌, ℕ, Bool, true, false, List, ◌++◌, length, codes, nat_lt, nat_eq, if◌then◌else◌, Option, Some, None, Result, Ok, Err, IfOk, ⊤, ◌⊎◌}
 use Rattle.std.specs.List.{ends_with}
 use Rattle.std.specs.Io.KnownBytes.{Consumes, IsAtEnd}
 use Rattle.crm_outside.specs.Shelves.{Files, IsTakenTo}
@@ -12,6 +12,7 @@ use Rattle.ntriples_reader.specs.Feeding as ntriples
 use Rattle.turtle_reader.specs.Answers as turtle
 use Rattle.rdf_reading.specs.declared.refusals.ReadRefusal.{ReadRefusal}
 use Rattle.rdf_reading.specs.declared.refusals.ReadRefusal.TheVariants as reading
+use Rattle.crm_core.specs.Contents.{Contents}
 use Rattle.crm_core.specs.declared.faults.ArchiveFault.{ArchiveFault}
 use Rattle.crm_core.specs.declared.faults.ArchiveFault.TheVariants.{Failed, Refused, Memory}
 
@@ -41,6 +42,21 @@ archived (Ok r) = Ok r
 archived (Err (reading.Refused f)) = Err (Refused f)
 archived (Err reading.Memory) = Err Memory
 
+-- the records of an archive that was read
+abbrev pub records_of : Result Contents ArchiveFault → Result Records ArchiveFault
+records_of (Ok a) = Ok a.records
+records_of (Err f) = Err f
+
+-- The length of an archive that was read is that of the bytes, where these are known.
+abbrev pub HasLength : Option (List ℕ) → Result Contents ArchiveFault → Type 0
+HasLength None r = ⊤
+HasLength (Some bytes) r = IfOk r (λ a. a.length ≡ length bytes)
+
+-- of a shelf that tells its files
+abbrev pub HasLengthOf : Option Files → List ℕ → Result Contents ArchiveFault → Type 0
+HasLengthOf None name r = ⊤
+HasLengthOf (Some files) name r = HasLength (files name) r
+
 -- of a name that is held, with its bytes; no other is read or refused
 abbrev pub AnswersBytes : Bool → Option (List ℕ) → Option (List ℕ) → Result Records ArchiveFault → Type 0
 AnswersBytes is_ntriples base (Some bytes) r = IsAnswer r (file_answer is_ntriples base bytes)
@@ -62,8 +78,7 @@ pub record IsFed (start left : Option (List ℕ)) (before now : List ℕ → Ans
   pub fed : (more : List ℕ) → now more ≡ before (bytes ++ more)
 
 -- and nothing is left
-pub record IsFedWhole (start left : Option (List ℕ)) (before now : List ℕ → Answer) : Type 0 where
-  pub count : ℕ
+pub record IsFedWhole (start left : Option (List ℕ)) (before now : List ℕ → Answer) (count : ℕ) : Type 0 where
   pub short : count ≤ 67108864
   pub end : IsAtEnd left
   pub fed : IsFed start left before now count

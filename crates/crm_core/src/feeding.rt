@@ -48,13 +48,20 @@ impl Feeds for TurtleReader {
     }
 }
 
+/// A reader to which a whole file was fed, and how many bytes the file has.
+#[derive(Drop)]
+pub(crate) struct FedFile<R> {
+    pub reader: R,
+    pub length: u64,
+}
+
 /// Feeds the open file to its end in windows of 4,096 bytes. A file that is too long is refused, one byte past the limit.
 pub(crate) fn feed_file<S: Shelf, R: Feeds + Drop>(
     shelf: &mut S,
     mut reader: R,
-) -> Result<R, ArchiveFault>
+) -> Result<FedFile<R>, ArchiveFault>
     requires { R.count reader ≡ 0 }
-    ensures whole { IfOk result (λ r. IsFedWhole (S.left shelf.old) (S.left shelf.new) (R.promised reader) (R.promised r)) }
+    ensures whole { IfOk result (λ f. IsFedWhole (S.left shelf.old) (S.left shelf.new) (R.promised reader) (R.promised f.reader) f.length) }
     ensures long { IfErr result (λ e. IsTakenLong (S.left shelf.old) (S.left shelf.new) e) }
     ensures failed { IsErrOf result ArchiveFault.Failed → Rose (S.faults shelf.old) (S.faults shelf.new) }
     ensures open { S.honest shelf.old ≡ true → is_some (S.left shelf.old) ≡ true → IsErrOf result ArchiveFault.Failed → ⊥ }
@@ -70,7 +77,10 @@ pub(crate) fn feed_file<S: Shelf, R: Feeds + Drop>(
             return Err(ArchiveFault::Failed);
         };
         if count == 0 {
-            return Ok(reader);
+            return Ok(FedFile {
+                reader,
+                length: taken as u64,
+            });
         }
         let Ok(()) = reader.feed_piece(&window[..count]) else {
             return Err(ArchiveFault::Memory);

@@ -4,6 +4,7 @@
 mod archive;
 mod faults;
 mod feeding;
+mod memory;
 mod sample;
 mod writing;
 
@@ -12,6 +13,7 @@ pub use crm_certify::CertKind;
 pub use faults::ArchiveFault;
 pub use inference_reports::{is_blank_name, is_node_name, report_explain};
 pub use order_core::Primitive;
+pub use rdf_reading::ReadRefusal;
 pub use record_reports::{report_check, report_orders};
 pub use report_base::laws::orders_of_records_are_a_set;
 pub use report_base::{ReportFault, Status};

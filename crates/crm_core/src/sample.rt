@@ -1,43 +1,31 @@
 // The command that reads its own sample.
-ghost use Rattle.std.specs.Prelude.{◌≡◌, true, None, IfOk, IsErrOf};
+ghost use Rattle.std.specs.Prelude.{◌≡◌, true, None, IfOk, IfErr};
 ghost use Rattle.report_base.specs.Reports.{Writes};
 ghost use Rattle.crm_matrix.specs.Samples.{sample_file as sample_bytes};
-ghost use Rattle.crm_core.specs.Files.{IsAnswer, file_answer};
-ghost use Rattle.crm_core.specs.SampleReports.{sample_report, shelf_with};
+ghost use Rattle.rdf_reading.specs.Answers.{IsRefusal};
+ghost use Rattle.rdf_reading.specs.Answers.Answer.{Read};
+ghost use Rattle.crm_core.specs.Files.{file_answer};
+ghost use Rattle.crm_core.specs.SampleReports.{sample_report};
 
-use crate::{Archive, ArchiveFault};
+use crate::Archive;
 use crm_matrix::{report_sample, sample_file};
-use crm_outside::{Bytes, FileEntry, FileList, MemShelf, Numbers, Sink, Text};
+use crm_outside::Sink;
+use rdf_reading::ReadRefusal;
 use record_reports::report_refusal;
 use report_base::{ReportFault, Status};
-use std::alloc::{AllocError, Global};
+use std::alloc::Global;
 
 const NAME: &str = "sample.nt";
 
-// A shelf with one file, none of whose calls fails.
-fn shelf_of(alloc: Global, bytes: Vec<u8>) -> Result<MemShelf, AllocError>
-    ensures { IfOk result (λ s. s ≡ shelf_with bytes.items) }
-{
-    let mut files = FileList::new(alloc);
-    files.push(FileEntry {
-        name: Text::from_str(alloc, NAME)?,
-        bytes: Bytes::from_vec(bytes),
-    })?;
-    Ok(MemShelf::new(files, Numbers::new(alloc)))
-}
-
 // Makes the sample and reads it as a file is read.
-fn read_sample(alloc: Global, n: u32) -> Result<Archive, ArchiveFault>
-    ensures told { IsAnswer result (file_answer true None (sample_bytes n)) }
-    ensures failed { IsErrOf result ArchiveFault.Failed → ⊥ }
+fn read_sample(alloc: Global, n: u32) -> Result<Archive, ReadRefusal>
+    ensures ok { IfOk result (λ a. file_answer true None (sample_bytes n) ≡ Read a.records) }
+    ensures refused { IfErr result (λ e. IsRefusal e (file_answer true None (sample_bytes n))) }
 {
     let Ok(bytes) = sample_file(alloc, n) else {
-        return Err(ArchiveFault::Memory);
+        return Err(ReadRefusal::Memory);
     };
-    let Ok(mut shelf) = shelf_of(alloc, bytes) else {
-        return Err(ArchiveFault::Memory);
-    };
-    Archive::read(alloc, &mut shelf, NAME, None)
+    Archive::of_bytes(alloc, bytes.as_slice(), NAME, None)
 }
 
 /// Makes the records of n contexts, reads them as a file, and prints counts of what they say and of what follows.
@@ -48,8 +36,7 @@ pub fn write_sample<W: Sink>(alloc: Global, n: u32, out: &mut W) -> Result<Statu
 {
     match read_sample(alloc, n) {
         Ok(archive) => report_sample(alloc, n, archive.records(), out),
-        Err(ArchiveFault::Refused(refusal)) => report_refusal(alloc, refusal, out),
-        Err(ArchiveFault::Failed) => unreachable!(),
-        Err(ArchiveFault::Memory) => Err(ReportFault::Memory),
+        Err(ReadRefusal::Refused(refusal)) => report_refusal(alloc, refusal, out),
+        Err(ReadRefusal::Memory) => Err(ReportFault::Memory),
     }
 }

@@ -36,7 +36,7 @@ pub fn write_check<W: Sink>(
     archive: &Archive,
     out: &mut W,
 ) -> Result<Status, ReportFault>
-    ensures { Writes W.written W.faults W.sure out.old out.new (check_report archive.now) result }
+    ensures { Writes W.written W.faults W.sure out.old out.new (check_report archive.now.records) result }
 {
     let pool = pool_of(alloc, archive)?;
     report_check(alloc, &archive.records().names, &pool, out)
@@ -50,7 +50,7 @@ pub fn write_orders<W: Sink>(
     archive: &Archive,
     out: &mut W,
 ) -> Result<Status, ReportFault>
-    ensures { Writes W.written W.faults W.sure out.old out.new (orders_report archive.now) result }
+    ensures { Writes W.written W.faults W.sure out.old out.new (orders_report archive.now.records) result }
 {
     let pool = pool_of(alloc, archive)?;
     report_orders(alloc, &archive.records().names, &pool, out)
@@ -62,7 +62,7 @@ pub fn write_convert<W: Sink>(
     archive: &Archive,
     out: &mut W,
 ) -> Result<Status, ReportFault>
-    ensures { Writes W.written W.faults W.sure out.old out.new (convert_report archive.now) result }
+    ensures { Writes W.written W.faults W.sure out.old out.new (convert_report archive.now.records) result }
 {
     report_convert(alloc, archive.records(), out)
 }
@@ -87,7 +87,7 @@ pub fn write_reason<W: Sink>(
     archive: &Archive,
     out: &mut W,
 ) -> Result<Status, ReportFault>
-    ensures { Writes W.written W.faults W.sure out.old out.new (reason_report archive.now) result }
+    ensures { Writes W.written W.faults W.sure out.old out.new (reason_report archive.now.records) result }
 {
     report_reason(alloc, archive.records(), out)
 }
@@ -108,7 +108,7 @@ pub fn write_explain<W: Sink>(
     out: &mut W,
 ) -> Result<Status, ReportFault>
     requires { a.now ≢ b.now }
-    ensures { Writes W.written W.faults W.sure out.old out.new (explain_report archive.now a.now p b.now) result }
+    ensures { Writes W.written W.faults W.sure out.old out.new (explain_report archive.now.records a.now p b.now) result }
 {
     let pool = pool_of(alloc, archive)?;
     report_explain(alloc, &archive.records().names, &pool, a, p, b, out)
@@ -123,7 +123,7 @@ pub fn write_matrix<W: Sink>(
     archive: &Archive,
     out: &mut W,
 ) -> Result<Status, ReportFault>
-    ensures { Writes W.written W.faults W.sure out.old out.new (matrix_report archive.now) result }
+    ensures { Writes W.written W.faults W.sure out.old out.new (matrix_report archive.now.records) result }
 {
     report_matrix(alloc, archive.records(), out)
 }
@@ -140,7 +140,7 @@ pub fn write_certificate<W: Sink>(
     kind: CertKind,
     out: &mut W,
 ) -> Result<Status, ReportFault>
-    ensures { WritesCertificate W.written W.faults W.sure out.old out.new archive.now kind result }
+    ensures { WritesCertificate W.written W.faults W.sure out.old out.new archive.now.records kind result }
 {
     report_certificate(alloc, archive.records(), kind, out)
 }
@@ -158,7 +158,7 @@ pub fn write_verdict<W: Sink>(
     out: &mut W,
 ) -> Result<Status, ReportFault>
     requires { length cert.now ≤ 67108864 }
-    ensures { WritesVerdict W.written W.faults W.sure out.old out.new archive.now cert.now result }
+    ensures { WritesVerdict W.written W.faults W.sure out.old out.new archive.now.records cert.now result }
 {
     report_verdict(alloc, archive.records(), cert, out)
 }

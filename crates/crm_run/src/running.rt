@@ -70,9 +70,9 @@ fn write_report<W: Sink>(
 ) -> Result<Status, ReportFault>
     requires apart { AreApart command.now }
     requires alone { certificate_of command.now ≡ None }
-    ensures report { IfSome (records_report command.now archive.now) (λ r. Writes W.written W.faults W.sure out.old out.new r result) }
+    ensures report { IfSome (records_report command.now archive.now.records) (λ r. Writes W.written W.faults W.sure out.old out.new r result) }
     ensures ending { IfOk result IsEnding }
-    ensures usage { IfOk result (λ s. s ≡ Status.Usage → NamesNoPeriod command.now archive.now) }
+    ensures usage { IfOk result (λ s. s ≡ Status.Usage → NamesNoPeriod command.now archive.now.records) }
     ensures failed { IsErrOf result ReportFault.Failed → Rose (W.faults out.old) (W.faults out.new) }
 {
     match command {
@@ -115,7 +115,7 @@ fn judge<S: Shelf, W: Sink>(
     ensures write { result ≡ Status.WriteFault → Rose (W.faults out.old) (W.faults out.new) }
     ensures later { S.faults shelf.old ≤ S.faults shelf.new }
     ensures verdict { IfSome (S.files shelf.old) (λ files. IsReport result →
-        IfSome (files cert.now) (λ bytes. IsSaid W.written out.old out.new (IsTrueVerdict archive.now bytes))) }
+        IfSome (files cert.now) (λ bytes. IsSaid W.written out.old out.new (IsTrueVerdict archive.now.records bytes))) }
 {
     match read_all(alloc, shelf, cert) {
         Ok(bytes) => ended(write_verdict(alloc, archive, bytes.as_slice(), out)),
@@ -134,12 +134,12 @@ fn say<S: Shelf, W: Sink>(
     out: &mut W,
 ) -> Status
     requires { AreApart command.now }
-    ensures report { Ends W.written W.faults W.sure out.old out.new (records_report command.now archive.now) result }
-    ensures usage { result ≡ Status.Usage → NamesNoPeriod command.now archive.now }
+    ensures report { Ends W.written W.faults W.sure out.old out.new (records_report command.now archive.now.records) result }
+    ensures usage { result ≡ Status.Usage → NamesNoPeriod command.now archive.now.records }
     ensures read { result ≡ Status.ReadFault → Rose (S.faults shelf.old) (S.faults shelf.new) }
     ensures write { result ≡ Status.WriteFault → Rose (W.faults out.old) (W.faults out.new) }
     ensures later { S.faults shelf.old ≤ S.faults shelf.new }
-    ensures verdict { IfSome (S.files shelf.old) (λ files. IsReport result → SaysVerdict W.written out.old out.new files (certificate_of command.now) archive.now) }
+    ensures verdict { IfSome (S.files shelf.old) (λ files. IsReport result → SaysVerdict W.written out.old out.new files (certificate_of command.now) archive.now.records) }
 {
     match certificate_of(command) {
         Some(cert) => judge(alloc, archive, cert, shelf, out),

@@ -1,0 +1,9 @@
+pub mod OneWay
+pub mod Members
+pub mod Owning
+pub mod Relating
+pub mod Faulted
+pub mod Standing
+pub mod Walking
+pub mod Moving
+pub mod BothWays
