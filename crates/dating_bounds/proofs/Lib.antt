@@ -1,0 +1,6 @@
+pub mod Halves
+pub mod Standing
+pub mod Bounding
+pub mod Dating
+pub mod Moving
+pub mod Moments
