@@ -3,4 +3,4 @@ pub mod Standing
 pub mod Bounding
 pub mod Dating
 pub mod Moving
-pub mod Moments
+pub mod UnderWay
