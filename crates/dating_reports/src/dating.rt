@@ -10,7 +10,7 @@ ghost use Rattle.dating_bounds.specs.Around.{IsBoundary};
 ghost use Rattle.dating_reports.specs.Bounds.{IsKnown};
 ghost use Rattle.dating_reports.specs.Bounds as spec;
 
-use crm_outside::{PrintFault, Sink, print_text};
+use crm_outside::{Items, PrintFault, Sink, print_text};
 use dating_bounds::{DateBound, bound};
 use order_analysis::Analysis;
 use order_core::Point;
@@ -177,7 +177,7 @@ fn print_bounds<W: Sink>(
 /// Prints the bounds of each of the boundaries. `line` is a buffer that is written over.
 pub fn print_all_bounds<W: Sink>(
     analysis: &Analysis,
-    points: &[Point],
+    points: &Items<Point>,
     line: &mut Vec<u8>,
     out: &mut W,
 ) -> Result<(), PrintFault>
@@ -186,7 +186,10 @@ pub fn print_all_bounds<W: Sink>(
     ensures { Prints W.written W.faults W.sure out.old out.new (lines_from (λ _ p. spec.bound_lines analysis.now.set p) 0 points.now) result }
 {
     for k in 0..points.len() {
-        print_bounds(analysis, points[k], line, out)?;
+        let Some(p) = points.get(k) else {
+            unreachable!()
+        };
+        print_bounds(analysis, *p, line, out)?;
     }
     Ok(())
 }
@@ -227,7 +230,7 @@ fn print_delay<W: Sink>(
 pub fn print_all_delays<W: Sink>(
     alloc: Global,
     placings: &Placings,
-    points: &[Point],
+    points: &Items<Point>,
     line: &mut Vec<u8>,
     out: &mut W,
 ) -> Result<(), PrintFault>
@@ -235,7 +238,10 @@ pub fn print_all_delays<W: Sink>(
     ensures { Prints W.written W.faults W.sure out.old out.new (lines_from (λ _ p. delay_line placings.now p) 0 points.now) result }
 {
     for k in 0..points.len() {
-        print_delay(alloc, placings, points[k], line, out)?;
+        let Some(p) = points.get(k) else {
+            unreachable!()
+        };
+        print_delay(alloc, placings, *p, line, out)?;
     }
     Ok(())
 }

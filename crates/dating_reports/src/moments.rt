@@ -121,9 +121,11 @@ pub fn print_moments<W: Sink>(
     requires periods { AreExtents moment.now.set.now.extents periods.now }
     ensures { Prints W.written W.faults W.sure out.old out.new (lines_from (λ _ k. spec.moment_lines moment.now.set.now moment.now.date k) 0 periods.now) result }
 {
-    let periods = periods.as_slice();
     for i in 0..periods.len() {
-        print_moment(alloc, moment, periods[i], line, out)?;
+        let Some(k) = periods.get(i) else {
+            unreachable!()
+        };
+        print_moment(alloc, moment, *k, line, out)?;
     }
     Ok(())
 }
