@@ -100,8 +100,7 @@ module _ (set : Orders) (keeps : IsOrderSet set.list set.extents set.dates) (no_
   low_weak p d zero e s = absurd (none-some s)
   low_weak p d (suc k) e s =
       let same : k ≡ d = ap (λ (b : DateBound). b.date) (some_bound _ _ s) in
-      let weak : is_strict (reach_between set.list (Date k) p) ≡ false = ap (λ (b : DateBound). b.strict) (some_bound _ _ s) in
-      (
+      let weak : is_strict (reach_between set.list (Date k) p) ≡ false = ap (λ (b : DateBound). b.strict) (some_bound _ _ s) in (
         omega (arith, floor_below (reach_between set.list) (length set.dates) p, e, same),
         (let P : ℕ → Type 0 = λ j. is_known (reach_between set.list (Date j) p) ≡ true in subst P same (floor_known (reach_between set.list) (length set.dates) p k e)),
         (let P : ℕ → Type 0 = λ j. is_strict (reach_between set.list (Date j) p) ≡ false in subst P same weak),
@@ -127,8 +126,7 @@ module _ (set : Orders) (keeps : IsOrderSet set.list set.extents set.dates) (no_
         | inl lt ↦
             (let s' : Some (record { date = c; strict = is_strict (reach_between set.list p (Date c)) }) ≡ Some (record { date = d; strict = false }) = (rw (lt-ltb c (length set.dates) lt) at s) in
             let same : c ≡ d = ap (λ (b : DateBound). b.date) (some_bound _ _ s') in
-            let weak : is_strict (reach_between set.list p (Date c)) ≡ false = ap (λ (b : DateBound). b.strict) (some_bound _ _ s') in
-            (
+            let weak : is_strict (reach_between set.list p (Date c)) ≡ false = ap (λ (b : DateBound). b.strict) (some_bound _ _ s') in (
               omega (arith, lt, same),
               (let P : ℕ → Type 0 = λ j. is_known (reach_between set.list p (Date j)) ≡ true in
                   subst P same (ceiling_known (reach_between set.list) p (length set.dates) c (omega (arith, e)) lt)),

@@ -50,8 +50,7 @@ each_renamed P at list all n h =
 left_at : (list : List Order) (at count : ℕ) → 0 < at →
     (length list < length (list ++ neighbour_orders at count)) × (order_at (list ++ neighbour_orders at count) (length list) ≡ date_order (at - 1) at)
 left_at list at count h =
-    let e : nat_lt 0 at ≡ true = lt-ltb 0 at h in
-    (
+    let e : nat_lt 0 at ≡ true = lt-ltb 0 at h in (
       rw e (omega (arith, length-append list ((date_order (at - 1) at ∷ []) ++ cond (nat_lt at count) (date_order at (at + 1) ∷ []) []))),
       rw e (let P : ℕ → Type 0 = λ n. order_at (list ++ (date_order (at - 1) at ∷ cond (nat_lt at count) (date_order at (at + 1) ∷ []) [])) n ≡ date_order (at - 1) at in
           let s : length list + 0 ≡ length list = omega arith in
@@ -63,26 +62,29 @@ right_at : (list : List Order) (at count : ℕ) → at < count →
 right_at list at count h =
     let e : nat_lt at count ≡ true = lt-ltb at count h in
     elim (cases_lt 0 at) [
-      | inl lt ↦ (length list + 1, (let f : nat_lt 0 at ≡ true = lt-ltb 0 at lt in
-          (
-            rw (f, e) (omega (arith, length-append list (date_order (at - 1) at ∷ date_order at (at + 1) ∷ []))),
-            rw (f, e) (get_or-append-add list (date_order (at - 1) at ∷ date_order at (at + 1) ∷ []) 1 no_order),
-          )))
-      | inr ge ↦ (length list + 0, (let f : nat_lt 0 at ≡ false = le-ltb 0 at ge in
-          (
-            rw (f, e) (omega (arith, length-append list (date_order at (at + 1) ∷ []))),
-            rw (f, e) (get_or-append-add list (date_order at (at + 1) ∷ []) 0 no_order),
-          )))
+      | inl lt ↦ (
+        length list + 1,
+        (let f : nat_lt 0 at ≡ true = lt-ltb 0 at lt in (
+          rw (f, e) (omega (arith, length-append list (date_order (at - 1) at ∷ date_order at (at + 1) ∷ []))),
+          rw (f, e) (get_or-append-add list (date_order (at - 1) at ∷ date_order at (at + 1) ∷ []) 1 no_order),
+        )),
+      )
+      | inr ge ↦ (
+        length list + 0,
+        (let f : nat_lt 0 at ≡ false = le-ltb 0 at ge in (
+          rw (f, e) (omega (arith, length-append list (date_order at (at + 1) ∷ []))),
+          rw (f, e) (get_or-append-add list (date_order at (at + 1) ∷ []) 0 no_order),
+        )),
+      )
     ]
 
 -- an order of the old list by its new names
 kept_order : (list : List Order) (at count : ℕ) (n : ℕ) → n < length list →
     (n < length (map (renamed at) list ++ neighbour_orders at count)) × (order_at (map (renamed at) list ++ neighbour_orders at count) n ≡ renamed at (order_at list n))
-kept_order list at count n h =
-    (
-      omega (arith, length-append (map (renamed at) list) (neighbour_orders at count), length-map list (renamed at)),
-      get_or_append_left (map (renamed at) list) (neighbour_orders at count) no_order n (omega (arith, length-map list (renamed at))) ∙ renamed_at at list n h,
-    )
+kept_order list at count n h = (
+  omega (arith, length-append (map (renamed at) list) (neighbour_orders at count), length-map list (renamed at)),
+  get_or_append_left (map (renamed at) list) (neighbour_orders at count) no_order n (omega (arith, length-map list (renamed at))) ∙ renamed_at at list n h,
+)
 
 -- the list has a strict order from the one date to the other
 abbrev HasOrder : List Order → Point → Point → Type 0
@@ -120,46 +122,54 @@ module _ (extents : ℕ) (dates : List ℤ) (list : List Order) (set : IsOrderSe
             (let old = set.neighbours k (omega arith) in
             let new = kept_order list at (length dates) old.0 old.1.0 in
             let low : moved at (Date k) ≡ Date k = rw (lt-ltb k at (omega arith)) refl in
-            let high : moved at (Date (k + 1)) ≡ Date (k + 1) = rw (lt-ltb (k + 1) at lt) refl in
-            (old.0, (
-              new.0,
-              ap (λ (o : Order). o.low) new.1 ∙ ap (moved at) old.1.1 ∙ low,
-              ap (λ (o : Order). o.high) new.1 ∙ ap (moved at) old.1.2 ∙ high,
-              ap (λ (o : Order). o.strict) new.1 ∙ old.1.3,
-            )))
+            let high : moved at (Date (k + 1)) ≡ Date (k + 1) = rw (lt-ltb (k + 1) at lt) refl in (
+              old.0,
+              (
+                new.0,
+                ap (λ (o : Order). o.low) new.1 ∙ ap (moved at) old.1.1 ∙ low,
+                ap (λ (o : Order). o.high) new.1 ∙ ap (moved at) old.1.2 ∙ high,
+                ap (λ (o : Order). o.strict) new.1 ∙ old.1.3,
+              ),
+            ))
         | inr ge ↦ elim (cases_eq (k + 1) at) [
           | inl same ↦
               (let new = left_at (map (renamed at) list) at (length dates) (omega arith) in
-              let e : at - 1 ≡ k = omega arith in
-              (length (map (renamed at) list), (
-                new.0,
-                ap (λ (o : Order). o.low) new.1 ∙ ap Date e,
-                ap (λ (o : Order). o.high) new.1 ∙ ap Date (sym same),
-                ap (λ (o : Order). o.strict) new.1,
-              )))
+              let e : at - 1 ≡ k = omega arith in (
+                length (map (renamed at) list),
+                (
+                  new.0,
+                  ap (λ (o : Order). o.low) new.1 ∙ ap Date e,
+                  ap (λ (o : Order). o.high) new.1 ∙ ap Date (sym same),
+                  ap (λ (o : Order). o.strict) new.1,
+                ),
+              ))
           | inr other ↦ elim (cases_eq k at) [
             | inl here ↦
                 (let new = right_at (map (renamed at) list) at (length dates) (omega (arith, here, length-inserted dates at t within)) in
-                let e : at + 1 ≡ k + 1 = omega (arith, here) in
-                (new.0, (
-                  new.1.0,
-                  ap (λ (o : Order). o.low) new.1.1 ∙ ap Date (sym here),
-                  ap (λ (o : Order). o.high) new.1.1 ∙ ap Date e,
-                  ap (λ (o : Order). o.strict) new.1.1,
-                )))
+                let e : at + 1 ≡ k + 1 = omega (arith, here) in (
+                  new.0,
+                  (
+                    new.1.0,
+                    ap (λ (o : Order). o.low) new.1.1 ∙ ap Date (sym here),
+                    ap (λ (o : Order). o.high) new.1.1 ∙ ap Date e,
+                    ap (λ (o : Order). o.strict) new.1.1,
+                  ),
+                ))
             | inr behind ↦
                 (let old = set.neighbours (k - 1) (omega (arith, length-inserted dates at t within)) in
                 let new = kept_order list at (length dates) old.0 old.1.0 in
                 let d : (k - 1) + 1 ≡ k = omega arith in
                 let low : moved at (Date (k - 1)) ≡ Date k = rw (le-ltb (k - 1) at (omega arith)) (ap Date d) in
                 let f : ((k - 1) + 1) + 1 ≡ k + 1 = omega arith in
-                let high : moved at (Date ((k - 1) + 1)) ≡ Date (k + 1) = rw (le-ltb ((k - 1) + 1) at (omega arith)) (ap Date f) in
-                (old.0, (
-                  new.0,
-                  ap (λ (o : Order). o.low) new.1 ∙ ap (moved at) old.1.1 ∙ low,
-                  ap (λ (o : Order). o.high) new.1 ∙ ap (moved at) old.1.2 ∙ high,
-                  ap (λ (o : Order). o.strict) new.1 ∙ old.1.3,
-                )))
+                let high : moved at (Date ((k - 1) + 1)) ≡ Date (k + 1) = rw (le-ltb ((k - 1) + 1) at (omega arith)) (ap Date f) in (
+                  old.0,
+                  (
+                    new.0,
+                    ap (λ (o : Order). o.low) new.1 ∙ ap (moved at) old.1.1 ∙ low,
+                    ap (λ (o : Order). o.high) new.1 ∙ ap (moved at) old.1.2 ∙ high,
+                    ap (λ (o : Order). o.strict) new.1 ∙ old.1.3,
+                  ),
+                ))
           ]
         ]
       ]
@@ -178,13 +188,15 @@ module _ (extents : ℕ) (dates : List ℤ) (list : List Order) (set : IsOrderSe
     neighbours = neighbours_new;
     starts_before_ends = λ k h.
         (let old = set.starts_before_ends k h in
-        let new = kept_order list at (length dates) old.0 old.1.0 in
-        (old.0, (
-          new.0,
-          ap (λ (o : Order). o.low) new.1 ∙ ap (moved at) old.1.1,
-          ap (λ (o : Order). o.high) new.1 ∙ ap (moved at) old.1.2,
-          ap (λ (o : Order). o.strict) new.1 ∙ old.1.3,
-        )));
+        let new = kept_order list at (length dates) old.0 old.1.0 in (
+          old.0,
+          (
+            new.0,
+            ap (λ (o : Order). o.low) new.1 ∙ ap (moved at) old.1.1,
+            ap (λ (o : Order). o.high) new.1 ∙ ap (moved at) old.1.2,
+            ap (λ (o : Order). o.strict) new.1 ∙ old.1.3,
+          ),
+        ));
   }
 
   -- the same placings satisfy both

@@ -4,3 +4,4 @@ pub mod Bounding
 pub mod Dating
 pub mod Moving
 pub mod UnderWay
+pub mod Instants

@@ -47,3 +47,21 @@ pub fn delaying_placing_puts_on_the_high_bound()
         (bound_of set p).high ≡ Some (record { date = d; strict = false }) →
         position_at set.dates (delaying_placing set.list set.extents set.dates p) p ≡ record { instant = slice_index_or set.dates d (pos 0); rank = 0 } }
 {}
+
+/// The same placings satisfy a set of orders and the one with an instant among its dates.
+pub fn dates_change_no_placing()
+    ensures { (set : Orders) (t : ℤ) (placing : List Position) → IsOrderSet set.list set.extents set.dates →
+        IsSatisfied (dated set t).list (dated set t).dates placing ↔ IsSatisfied set.list set.dates placing }
+{}
+
+/// A set of orders has a cycle exactly where the one with an instant among its dates has one.
+pub fn dates_make_no_cycle()
+    ensures { (set : Orders) (t : ℤ) → IsOrderSet set.list set.extents set.dates → (¬ HasCycle (dated set t).list) ↔ (¬ HasCycle set.list) }
+{}
+
+/// What is computed with an instant among the dates of a set says whether an extent is under way in every, in no or in some
+/// placing that satisfies the set.
+pub fn extents_are_under_way_in_placings()
+    ensures { (set : Orders) (t : ℤ) (k : ℕ) → IsOrderSet set.list set.extents set.dates → ¬ HasCycle set.list → k < set.extents →
+        IsDuring set t k (during_of (dated set t) (place_of set.dates t) k) }
+{}
