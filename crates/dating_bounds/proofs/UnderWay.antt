@@ -60,18 +60,20 @@ one_in_range extents dates o low high = record {
   high = λ n. elim n as (λ m. m < length (o ∷ []) → IsPoint extents dates (order_at (o ∷ []) m).high) [ zero ↦ λ h. high | suc m ↦ λ h. absurd (omega arith) ];
 }
 
-pub inside_in_range : (extents dates date k : ℕ) → date < dates → k < extents → AreInRange extents dates (inside_orders date k)
-inside_in_range extents dates date k d e = record { low = lows; high = highs }
-where
-  lows : (n : ℕ) → n < length (inside_orders date k) → IsPoint extents dates (order_at (inside_orders date k) n).low
-  lows zero h = e
-  lows (suc zero) h = d
-  lows (suc (suc n)) h = absurd (omega arith)
+inside_low : (extents dates date k : ℕ) → date < dates → k < extents → (n : ℕ) → n < length (inside_orders date k) →
+    IsPoint extents dates (order_at (inside_orders date k) n).low
+inside_low extents dates date k d e zero h = e
+inside_low extents dates date k d e (suc zero) h = d
+inside_low extents dates date k d e (suc (suc n)) h = absurd (omega arith)
 
-  highs : (n : ℕ) → n < length (inside_orders date k) → IsPoint extents dates (order_at (inside_orders date k) n).high
-  highs zero h = d
-  highs (suc zero) h = e
-  highs (suc (suc n)) h = absurd (omega arith)
+inside_high : (extents dates date k : ℕ) → date < dates → k < extents → (n : ℕ) → n < length (inside_orders date k) →
+    IsPoint extents dates (order_at (inside_orders date k) n).high
+inside_high extents dates date k d e zero h = d
+inside_high extents dates date k d e (suc zero) h = e
+inside_high extents dates date k d e (suc (suc n)) h = absurd (omega arith)
+
+pub inside_in_range : (extents dates date k : ℕ) → date < dates → k < extents → AreInRange extents dates (inside_orders date k)
+inside_in_range extents dates date k d e = record { low = inside_low extents dates date k d e; high = inside_high extents dates date k d e }
 
 pub outside_in_range : (table : Point → Point → Reach) (extents dates date k : ℕ) → date < dates → k < extents →
     AreInRange extents dates (outside_order table date k ∷ [])
@@ -205,18 +207,20 @@ module _ (set : Orders) (keeps : IsOrderSet set.list set.extents set.dates) (no_
       let range : AreInRange set.extents (length set.dates) (outside_order (reach_between set.list) date k ∷ []) =
       outside_in_range (reach_between set.list) set.extents (length set.dates) date k in_dates in_extents in
       let none : HasCycle (set.list ++ outside_order (reach_between set.list) date k ∷ []) → ⊥ = outside_consistent unsure in
-      let parts = plain_both (outside_order (reach_between set.list) date k ∷ []) range none in
-      (plain_of (outside_order (reach_between set.list) date k ∷ []) range none, λ way.
-      elim (cases_Bool (is_known (reach_between set.list (Start k) (Date date)))) [
-        | inl known ↦
-            (let P : Order → Type 0 = λ o. Stands set.dates (plain_with set (outside_order (reach_between set.list) date k ∷ [])) o in
-            let e : outside_order (reach_between set.list) date k ≡ order_to k (End k) (Date date) false = rw known refl in
-            not_both_ways _ _ way.unended (subst P e (parts.1 0 (omega arith))))
-        | inr unknown ↦
-            (let P : Order → Type 0 = λ o. Stands set.dates (plain_with set (outside_order (reach_between set.list) date k ∷ [])) o in
-            let e : outside_order (reach_between set.list) date k ≡ order_to k (Date date) (Start k) true = rw unknown refl in
-            not_both_ways _ _ (subst P e (parts.1 0 (omega arith))) way.started)
-      ])
+      let parts = plain_both (outside_order (reach_between set.list) date k ∷ []) range none in (
+        plain_of (outside_order (reach_between set.list) date k ∷ []) range none,
+        λ way.
+            elim (cases_Bool (is_known (reach_between set.list (Start k) (Date date)))) [
+              | inl known ↦
+                  (let P : Order → Type 0 = λ o. Stands set.dates (plain_with set (outside_order (reach_between set.list) date k ∷ [])) o in
+                  let e : outside_order (reach_between set.list) date k ≡ order_to k (End k) (Date date) false = rw known refl in
+                  not_both_ways _ _ way.unended (subst P e (parts.1 0 (omega arith))))
+              | inr unknown ↦
+                  (let P : Order → Type 0 = λ o. Stands set.dates (plain_with set (outside_order (reach_between set.list) date k ∷ [])) o in
+                  let e : outside_order (reach_between set.list) date k ≡ order_to k (Date date) (Start k) true = rw unknown refl in
+                  not_both_ways _ _ (subst P e (parts.1 0 (omega arith))) way.started)
+            ],
+      )
 
   pub during_is : IsDuring set At k (during_of set date k)
   during_is =
