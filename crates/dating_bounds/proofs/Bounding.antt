@@ -97,7 +97,7 @@ module _ (set : Orders) (keeps : IsOrderSet set.list set.extents set.dates) (no_
   low_weak : (p : Point) (d f : ℕ) → floor_of (reach_between set.list) (length set.dates) p ≡ f →
       low_at (reach_between set.list) p f ≡ Some (record { date = d; strict = false }) →
       (d < length set.dates) × (is_known (reach_between set.list (Date d) p) ≡ true) × (is_strict (reach_between set.list (Date d) p) ≡ false)
-  low_weak p d zero e s = absurd (none-some s)
+  low_weak p d zero e s = absurd (none-some _ s)
   low_weak p d (suc k) e s =
       let same : k ≡ d = ap (λ (b : DateBound). b.date) (some_bound _ _ s) in
       let weak : is_strict (reach_between set.list (Date k) p) ≡ false = ap (λ (b : DateBound). b.strict) (some_bound _ _ s) in (
@@ -132,7 +132,7 @@ module _ (set : Orders) (keeps : IsOrderSet set.list set.extents set.dates) (no_
                   subst P same (ceiling_known (reach_between set.list) p (length set.dates) c (omega (arith, e)) lt)),
               (let P : ℕ → Type 0 = λ j. is_strict (reach_between set.list p (Date j)) ≡ false in subst P same weak),
             ))
-        | inr ge ↦ absurd (none-some (rw (le-ltb c (length set.dates) ge) at s))
+        | inr ge ↦ absurd (none-some _ (rw (le-ltb c (length set.dates) ge) at s))
       ]
 
   pub delaying_upon : (p : Point) (d : ℕ) → IsBoundary set.extents p → (bound_of set p).high ≡ Some (record { date = d; strict = false }) →

@@ -19,6 +19,19 @@ use Rattle.order_extension.proofs.Further.{each_joined, Stands, satisfied_both}
 use Rattle.dating_bounds.specs.Dated.{place_of, is_dated, moved, renamed, date_order, neighbour_orders, inserted, dated}
 use Rattle.dating_bounds.proofs.Moving.{length-inserted, inserted_left, inserted_here, inserted_right, position_moved, moved_in_range, place_within, earlier_dates, later_date, same_date}
 
+most_two : (at count : ℕ) → length (neighbour_orders at count) ≤ 2
+most_two at count =
+    elim (cases_lt 0 at) [
+      | inl lt ↦ rw (lt-ltb 0 at lt) (elim (cases_lt at count) [
+        | inl more ↦ rw (lt-ltb at count more) (omega arith)
+        | inr least ↦ rw (le-ltb at count least) (omega arith)
+      ])
+      | inr ge ↦ rw (le-ltb 0 at ge) (elim (cases_lt at count) [
+        | inl more ↦ rw (lt-ltb at count more) (omega arith)
+        | inr least ↦ rw (le-ltb at count least) (omega arith)
+      ])
+    ]
+
 each_one : (P : Order → Type 0) (x : Order) → P x → (n : ℕ) → n < length (x ∷ []) → P (order_at (x ∷ []) n)
 each_one P x p zero h = p
 each_one P x p (suc n) h = absurd (omega arith)
@@ -85,6 +98,10 @@ kept_order list at count n h = (
   omega (arith, length-append (map (renamed at) list) (neighbour_orders at count), length-map list (renamed at)),
   get_or_append_left (map (renamed at) list) (neighbour_orders at count) no_order n (omega (arith, length-map list (renamed at))) ∙ renamed_at at list n h,
 )
+
+pub length-inserted_list : (list : List Order) (at count : ℕ) → length (map (renamed at) list ++ neighbour_orders at count) ≤ length list + 2
+length-inserted_list list at count =
+    omega (arith, length-append (map (renamed at) list) (neighbour_orders at count), length-map list (renamed at), most_two at count)
 
 -- the list has a strict order from the one date to the other
 abbrev HasOrder : List Order → Point → Point → Type 0

@@ -5,3 +5,5 @@ pub mod Dating
 pub mod Moving
 pub mod UnderWay
 pub mod Instants
+pub mod Agreeing
+pub mod Renaming

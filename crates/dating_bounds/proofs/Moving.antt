@@ -1,11 +1,11 @@
 -- A date that is put among ascending dates, and the numbers of the others.
 use Rattle.std.proofs.Common.{zero, suc, ◌≡◌, ℕ, ℤ, pos, List, [], ◌∷◌, ◌++◌, Bool, true, false, ◌+◌, ◌-◌, ◌*◌, ◌^◌, ◌<◌, ◌≤◌, length, get_or, take, drop, arith, inl, inr, refl, subst, ap, sym, ◌∙◌, length-append}
-use Rattle.std.specs.Prelude.{◌<ℤ◌, ◌≤ℤ◌, ◌-ℤ◌, nat_lt, int_le, cond}
+use Rattle.std.specs.Prelude.{◌<ℤ◌, ◌≤ℤ◌, ◌-ℤ◌, nat_lt, int_le, cond, not}
 use Rattle.std.specs.List.{position_or_len}
 use Rattle.std.proofs.lemmas.Int.{ints}
 use Rattle.std.proofs.lemmas.Bool.{cases_Bool, cases_eq, cases_lt, true≢false, lt-ltb, le-ltb}
 use Rattle.std.proofs.lemmas.List.{get_or_append_left, get_or-append-add, get_or-take, get_or-drop, length-take-le, length-drop}
-use Rattle.std.proofs.lemmas.List.Sums.{fails_before_first, passes_at_first}
+use Rattle.std.proofs.lemmas.List.Sums.{fails_before_first, passes_at_first, prefix_len-le-length}
 use Rattle.order_laws.specs.declared.Point.{Point}
 use Rattle.order_laws.specs.declared.Point.TheVariants.{Start, End, Date}
 use Rattle.order_laws.specs.declared.Position.{Position}
@@ -21,7 +21,7 @@ pub not_le : (a b : ℤ) → int_le a b ≡ false → b <ℤ a
 not_le a b h = grind (arith, ints)
 
 pub place_within : (dates : List ℤ) (t : ℤ) → place_of dates t ≤ length dates
-place_within dates t = search (arith, rules)
+place_within dates t = prefix_len-le-length (λ d. not (int_le t d)) dates
 
 module _ (dates : List ℤ) (at : ℕ) (t : ℤ) (within : at ≤ length dates) where
   pub length-inserted : length (take at dates ++ t ∷ drop at dates) ≡ length dates + 1

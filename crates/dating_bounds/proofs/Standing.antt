@@ -110,11 +110,14 @@ module _ (orders : List Order) (extents : ℕ) (dates : List ℤ) (table : Point
       true≢false (sym (good.joins_strictly (Date d) q p h in_q in_p (floor_known table (length dates) q d of_q) (known_of_strict _ parts.0)
       (or_right (is_strict (table (Date d) q)) (is_strict (table q p)) parts.0)) ∙ weak)))))
 
+  built_on : (p : Point) → IsPoint extents (length dates) p → (d : ℕ) → d < length dates → is_known (table (Date d) p) ≡ true → is_strict (table (Date d) p) ≡ false →
+      built_at extents dates table p ≡ on_date dates d
+  built_on p in_p d h known weak = rw (floor_on p in_p d h known weak, rank_on p in_p d h known weak)
+
   pub upon_date : (p : Point) → IsPoint extents (length dates) p → (d : ℕ) → d < length dates → is_known (table (Date d) p) ≡ true → is_strict (table (Date d) p) ≡ false →
       position_at dates (built extents dates table) p ≡ on_date dates d
   upon_date p in_p d h known weak =
-      sym (placed orders extents dates table set good p in_p)
-      ∙ (rw (floor_on p in_p d h known weak, rank_on p in_p d h known weak) refl)
+      sym (placed orders extents dates table set good p in_p) ∙ built_on p in_p d h known weak
 
   -- what is not known to be behind a date is put at or before it
   pub at_or_before_date : (p : Point) → IsPoint extents (length dates) p → (d : ℕ) → d < length dates → is_strict (table (Date d) p) ≡ false →

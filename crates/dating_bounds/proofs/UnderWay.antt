@@ -45,6 +45,15 @@ not_first false b h e = absurd (true≢false (sym e))
 pub not_both_ways : (p q : Position) → IsBefore p q → Stand false q p → ⊥
 not_both_ways p q h k = never_before_self p (stand_twice true false p q p h k)
 
+abbrev pub Upon : ℤ → Position
+Upon t = record { instant = t; rank = 0 }
+
+ended : (dates : List ℤ) (placing : List Position) (k : ℕ) (t : ℤ) → IsUnderWay dates placing k t → Stand false (position_at dates placing (End k)) (Upon t) → ⊥
+ended dates placing k t way over = not_both_ways (Upon t) (position_at dates placing (End k)) way.unended over
+
+unstarted : (dates : List ℤ) (placing : List Position) (k : ℕ) (t : ℤ) → IsUnderWay dates placing k t → Stand true (Upon t) (position_at dates placing (Start k)) → ⊥
+unstarted dates placing k t way late = not_both_ways (Upon t) (position_at dates placing (Start k)) late way.started
+
 one_order : (o : Order) (dates : List ℤ) (placing : List Position) → Stands dates placing o → IsSatisfied (o ∷ []) dates placing
 one_order o dates placing s zero h = s
 one_order o dates placing s (suc n) h = absurd (omega arith)
@@ -131,7 +140,7 @@ module _ (set : Orders) (keeps : IsOrderSet set.list set.extents set.dates) (no_
         two_orders (order_to k (Start k) (Date date) false) (order_to k (Date date) (End k) true) set.dates (delaying_placing set.list set.extents set.dates (End k))
             (at_or_before_date set.list set.extents set.dates (wider (reach_between set.list) (End k)) keeps
             (wide set.list set.extents set.dates keeps no_cycle (End k) in_extents) (Start k) in_extents date in_dates
-            (rw end_apart (not_widened _ _ n.0)))
+            (rw end_apart (not_widened (reach_between set.list (End k) (Date date)) (reach_between set.list (Date date) (Start k)) n.0)))
             (delayed_before set.list set.extents set.dates keeps no_cycle (End k) (Date date) in_extents in_dates
             (λ f. true≢false (sym (follows_entry set.list (End k) (Date date) false f) ∙ n.1))),
       )
@@ -214,11 +223,11 @@ module _ (set : Orders) (keeps : IsOrderSet set.list set.extents set.dates) (no_
               | inl known ↦
                   (let P : Order → Type 0 = λ o. Stands set.dates (plain_with set (outside_order (reach_between set.list) date k ∷ [])) o in
                   let e : outside_order (reach_between set.list) date k ≡ order_to k (End k) (Date date) false = rw known refl in
-                  not_both_ways _ _ way.unended (subst P e (parts.1 0 (omega arith))))
+                  ended set.dates (plain_with set (outside_order (reach_between set.list) date k ∷ [])) k At way (subst P e (parts.1 0 (omega arith))))
               | inr unknown ↦
                   (let P : Order → Type 0 = λ o. Stands set.dates (plain_with set (outside_order (reach_between set.list) date k ∷ [])) o in
                   let e : outside_order (reach_between set.list) date k ≡ order_to k (Date date) (Start k) true = rw unknown refl in
-                  not_both_ways _ _ (subst P e (parts.1 0 (omega arith))) way.started)
+                  unstarted set.dates (plain_with set (outside_order (reach_between set.list) date k ∷ [])) k At way (subst P e (parts.1 0 (omega arith))))
             ],
       )
 
@@ -233,10 +242,10 @@ module _ (set : Orders) (keeps : IsOrderSet set.list set.extents set.dates) (no_
         | inr unsure ↦ rw unsure (elim (cases_Bool (is_never (reach_between set.list) date k)) [
           | inl never ↦ rw never (λ placing of way.
               elim (cases_Bool (is_strict (reach_between set.list (Date date) (Start k)))) [
-                | inl late ↦ not_both_ways _ _ (always_of set keeps no_cycle (Date date) (Start k) true late placing of.size of.satisfies) way.started
+                | inl late ↦ unstarted set.dates placing k At way (always_of set keeps no_cycle (Date date) (Start k) true late placing of.size of.satisfies)
                 | inr other ↦
                     (let over : is_known (reach_between set.list (End k) (Date date)) ≡ true = (rw other at never) in
-                    not_both_ways _ _ way.unended (always_of set keeps no_cycle (End k) (Date date) false over placing of.size of.satisfies))
+                    ended set.dates placing k At way (always_of set keeps no_cycle (End k) (Date date) false over placing of.size of.satisfies))
               ])
           | inr possible ↦ rw possible (inside_is possible, outside_is unsure)
         ])

@@ -6,7 +6,8 @@ ghost use Rattle.order_closure.specs.Closures.{IsClosureOf, between};
 ghost use Rattle.dating_bounds.specs.Around.{IsBoundary, IsBoundOf, ceiling_of, low_at, high_at, bound_in, bound_of};
 
 use crate::extremes::{Bound, DateBound};
-use order_closure::{Closure, Reach};
+use crate::following::follows;
+use order_closure::Closure;
 use order_core::OrderSet;
 use order_laws::Point;
 
@@ -23,10 +24,10 @@ fn floor(set: &OrderSet, closure: &Closure, p: Point) -> u32
     let mut high = set.dates().len() as u32;
     while low < high {
         let middle = low + (high - low) / 2;
-        if closure.between(Point::Date(middle), p) == Reach::None {
-            high = middle;
-        } else {
+        if follows(closure, Point::Date(middle), p, false) {
             low = middle + 1;
+        } else {
+            high = middle;
         }
     }
     low
@@ -45,10 +46,10 @@ fn ceiling(set: &OrderSet, closure: &Closure, p: Point) -> u32
     let mut high = set.dates().len() as u32;
     while low < high {
         let middle = low + (high - low) / 2;
-        if closure.between(p, Point::Date(middle)) == Reach::None {
-            low = middle + 1;
-        } else {
+        if follows(closure, p, Point::Date(middle), false) {
             high = middle;
+        } else {
+            low = middle + 1;
         }
     }
     low
@@ -64,7 +65,7 @@ fn low_bound(closure: &Closure, p: Point, floor: u32) -> Option<DateBound>
         return None;
     }
     let date = floor - 1;
-    let strict = closure.between(Point::Date(date), p) == Reach::Lt;
+    let strict = follows(closure, Point::Date(date), p, true);
     Some(DateBound { date, strict })
 }
 
@@ -77,7 +78,7 @@ fn high_bound(closure: &Closure, dates: u32, p: Point, ceiling: u32) -> Option<D
     if ceiling >= dates {
         return None;
     }
-    let strict = closure.between(p, Point::Date(ceiling)) == Reach::Lt;
+    let strict = follows(closure, p, Point::Date(ceiling), true);
     Some(DateBound {
         date: ceiling,
         strict,

@@ -1,5 +1,5 @@
 // Sets of orders with a further date.
-ghost use Rattle.std.specs.Prelude.{◌≡◌, ℕ, pos, ◌+◌, ◌-◌, ◌<◌, ◌≤◌, ◌^◌, ◌<ℤ◌, ◌-ℤ◌, ◌∷◌, ◌++◌, length, map, take, drop, IfOk, OnOk};
+ghost use Rattle.std.specs.Prelude.{◌≡◌, ℕ, pos, false, ◌+◌, ◌-◌, ◌<◌, ◌≤◌, ◌^◌, ◌<ℤ◌, ◌-ℤ◌, ◌∷◌, ◌++◌, length, map, take, drop, IfOk, OnOk};
 ghost use Rattle.order_laws.specs.Chains.{order_at};
 ghost use Rattle.order_laws.specs.Tables.{IsPoint};
 ghost use Rattle.dating_bounds.specs.Dated.{place_of, is_dated, moved, renamed, date_order, neighbour_orders, inserted, dated};

@@ -4,6 +4,7 @@
 mod bounds;
 mod dates;
 mod extremes;
+mod following;
 pub mod laws;
 mod moments;
 

@@ -1,12 +1,12 @@
 // Whether an extent is under way at a date.
-ghost use Rattle.std.specs.Prelude.{◌≡◌, ◌+◌, ◌<◌, ◌^◌, ◌++◌, pos, true, false, length, slice_index_or, IfOk, OnOk};
+ghost use Rattle.std.specs.Prelude.{◌≡◌, ◌+◌, ◌<◌, ◌^◌, ◌++◌, pos, false, length, slice_index_or, IfOk};
 ghost use Rattle.order_laws.specs.Chains.{HasCycle};
-ghost use Rattle.order_laws.specs.Tables.{IsPoint};
 ghost use Rattle.order_core.specs.Sets.{AreInRange};
 ghost use Rattle.order_closure.specs.Closures.{IsClosureOf, between};
 ghost use Rattle.dating_bounds.specs.Moment as spec;
 
-use order_closure::{Closure, Reach};
+use crate::following::follows;
+use order_closure::Closure;
 use order_core::{By, Order, OrderList, OrderSet, Placing, Point};
 use order_extension::with_orders;
 use placing_witness::plain;
@@ -19,19 +19,6 @@ pub enum During {
     Surely,
     Never,
     Maybe { inside: Placing, outside: Placing },
-}
-
-// Whether something follows from x to y, strictly where that is asked.
-fn follows(closure: &Closure, x: Point, y: Point, strict: bool) -> bool
-    requires x { IsPoint closure.now.extents closure.now.dates x }
-    requires y { IsPoint closure.now.extents closure.now.dates y }
-    ensures { result ≡ spec.is_enough strict (between closure.now x y) }
-{
-    match closure.between(x, y) {
-        Reach::None => false,
-        Reach::Le => !strict,
-        Reach::Lt => true,
-    }
 }
 
 fn is_surely(closure: &Closure, date: u32, k: u32) -> bool

@@ -14,7 +14,7 @@ use Rattle.dating_bounds.specs.Around.{IsBoundary}
 use Rattle.dating_bounds.proofs.Bounding.{boundary_point}
 
 some_within : {X : Type 0} (xs : List X) (i : ℕ) (x : X) → Some x ≡ slice_get xs i → i < length xs
-some_within [] i x h = absurd (none-some (sym h))
+some_within [] i x h = absurd (none-some x (sym h))
 some_within (y ∷ ys) zero x h = omega arith
 some_within (y ∷ ys) (suc i) x h = omega (arith, some_within ys i x h)
 

@@ -1,6 +1,7 @@
 // The report of the dates around the boundaries.
 ghost use Rattle.std.specs.Prelude.{◌≡◌, length, IfOk, is_none, true};
 ghost use Rattle.order_laws.specs.Chains.{HasCycle};
+ghost use Rattle.order_laws.specs.Tables.{boundaries};
 ghost use Rattle.crm_outside.specs.Printing.{Prints};
 ghost use Rattle.order_analysis.specs.Subjects.{cycle_of};
 ghost use Rattle.reason_report.specs.Reason.{plain_line};
@@ -11,9 +12,10 @@ ghost use Rattle.dating_reports.specs.Bounds as spec;
 use crate::boundaries::boundaries;
 use crate::dating::{print_all_bounds, print_all_delays};
 use boundary_orders::Dossier;
-use crm_outside::{PrintFault, Sink, print_text};
+use crm_outside::{Items, PrintFault, Sink, print_text};
 use dossier_analysis::analyse;
 use order_analysis::Analysis;
+use order_core::Point;
 use order_texts::print_placing;
 use placing_witness::Placings;
 use rdf_terms::{Names, Records};
@@ -36,6 +38,26 @@ fn print_plain<W: Sink>(
 }
 
 // The plain placing, the bounds of all boundaries, and the placings that delay them.
+fn print_parts<W: Sink>(
+    analysis: &Analysis,
+    placings: &Placings,
+    points: &Items<Point>,
+    line: &mut Vec<u8>,
+    out: &mut W,
+) -> Result<(), PrintFault>
+    requires consistent { ¬ HasCycle analysis.now.set.list }
+    requires placings { placings.now ≡ analysis.now.set }
+    requires points { points.now ≡ boundaries analysis.now.set.extents }
+    ensures { Prints W.written W.faults W.sure out.old out.new (spec.around_text analysis.now.set) result }
+{
+    let alloc = analysis.alloc();
+    print_text(out, b"consistent\n")?;
+    print_plain(alloc, placings, line, out)?;
+    print_all_bounds(analysis, points, line, out)?;
+    print_all_delays(alloc, placings, points, line, out)
+}
+
+// Answers that the orders are consistent.
 fn print_around<W: Sink>(
     analysis: &Analysis,
     line: &mut Vec<u8>,
@@ -45,17 +67,13 @@ fn print_around<W: Sink>(
     ensures prints { Prints W.written W.faults W.sure out.old out.new (spec.around_text analysis.now.set) result }
     ensures answer { IfOk result (λ consistent. consistent ≡ true) }
 {
-    let alloc = analysis.alloc();
     let Ok(placings) = analysis.placings() else {
         return Err(PrintFault::Memory);
     };
-    let Ok(points) = boundaries(alloc, analysis.set().extents()) else {
+    let Ok(points) = boundaries(analysis.alloc(), analysis.set().extents()) else {
         return Err(PrintFault::Memory);
     };
-    print_text(out, b"consistent\n")?;
-    print_plain(alloc, &placings, line, out)?;
-    print_all_bounds(analysis, &points, line, out)?;
-    print_all_delays(alloc, &placings, &points, line, out)?;
+    print_parts(analysis, &placings, &points, line, out)?;
     Ok(true)
 }
 

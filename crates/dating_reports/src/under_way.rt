@@ -67,12 +67,14 @@ fn print_at<W: Sink>(
     ensures prints { Prints W.written W.faults W.sure out.old out.new (spec.at_text dossier.now.orders dossier.now.periods t) result }
     ensures answer { IfOk result (λ consistent. consistent ≡ is_none (cycle_of dossier.now.orders)) }
 {
-    if !moment.closure.is_consistent() {
-        print_cycle(alloc, dossier, line, out)?;
-        return Ok(false);
+    let orders = dossier.orders();
+    orders.conditions();
+    if moment.closure.is_consistent() {
+        print_periods(alloc, dossier, moment, line, out)?;
+        return Ok(true);
     }
-    print_periods(alloc, dossier, moment, line, out)?;
-    Ok(true)
+    print_cycle(alloc, dossier, line, out)?;
+    Ok(false)
 }
 
 fn print_report<W: Sink>(
