@@ -1,0 +1,9 @@
+pub mod Halves
+pub mod Standing
+pub mod Bounding
+pub mod Dating
+pub mod Moving
+pub mod UnderWay
+pub mod Instants
+pub mod Agreeing
+pub mod Renaming
