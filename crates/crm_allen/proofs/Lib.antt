@@ -1,0 +1,4 @@
+pub mod Growing
+pub mod InRange
+pub mod Listed
+pub mod Relating

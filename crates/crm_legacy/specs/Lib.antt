@@ -1,0 +1,3 @@
+pub mod Legacies
+pub mod Modern
+pub mod Causes
