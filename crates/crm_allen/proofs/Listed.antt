@@ -6,7 +6,11 @@ use Rattle.std.proofs.lemmas.Bool.{cases_Bool}
 use Rattle.std.proofs.lemmas.List.Elements.{All-contains, filter_passes}
 use Rattle.crm_allen.specs.declared.relations.Allen.{Allen}
 use Rattle.crm_allen.specs.declared.relations.Allen.TheVariants.{Before, Meets, Overlaps, Finished, Contains as Containing, Starts, Equal, Started, During, Finishes, Overlapped, Met, After}
-use Rattle.crm_allen.specs.Names.{all_relations}
+use Rattle.std.specs.List.{list_any}
+use Rattle.std.specs.Prelude.{◌&&◌}
+use Rattle.std.proofs.lemmas.Bool.{eqb-true}
+use Rattle.std.proofs.lemmas.Map.Views.{any-filter_same}
+use Rattle.crm_allen.specs.Names.{all_relations, place_of, is_same_relation, is_among}
 
 contains_behind : {X : Type 0} (y : X) (xs : List X) (x : X) → Contains xs x → Contains (y ∷ xs) x
 contains_behind y xs x c = (suc c.0, (omega (arith, c.1), c.2))
@@ -42,3 +46,56 @@ listed p r = (
   (λ h. let c = all_there r in filtered_at p all_relations r c.0 c.1 c.2 h),
   (λ c. All-contains (λ (x : Allen). p x ≡ true) (filter p all_relations) r (filter_passes p all_relations) c),
 )
+
+-- a relation is known by its place
+relation_at : ℕ → Allen
+relation_at n = slice_index_or all_relations n Before
+
+relation_at_place : (r : Allen) → r ≡ relation_at (place_of r)
+relation_at_place Before = refl
+relation_at_place Meets = refl
+relation_at_place Overlaps = refl
+relation_at_place Finished = refl
+relation_at_place Containing = refl
+relation_at_place Starts = refl
+relation_at_place Equal = refl
+relation_at_place Started = refl
+relation_at_place During = refl
+relation_at_place Finishes = refl
+relation_at_place Overlapped = refl
+relation_at_place Met = refl
+relation_at_place After = refl
+
+same_place : (r q : Allen) → place_of r ≡ place_of q → r ≡ q
+same_place r q e = relation_at_place r ∙ (ap relation_at e ∙ sym (relation_at_place q))
+
+and_true : (b : Bool) → (b && true) ≡ b
+and_true true = refl
+and_true false = refl
+
+any_of_all : (r : Allen) → list_any (is_same_relation r) all_relations ≡ true
+any_of_all Before = refl
+any_of_all Meets = refl
+any_of_all Overlaps = refl
+any_of_all Finished = refl
+any_of_all Containing = refl
+any_of_all Starts = refl
+any_of_all Equal = refl
+any_of_all Started = refl
+any_of_all During = refl
+any_of_all Finishes = refl
+any_of_all Overlapped = refl
+any_of_all Met = refl
+any_of_all After = refl
+
+pub among_filtered : (p : Allen → Bool) (r : Allen) → is_among (filter p all_relations) r ≡ p r
+among_filtered p r =
+    any-filter_same (is_same_relation r) p (p r) (λ q e. ap p (sym (same_place r q (eqb-true (place_of r) (place_of q) e)))) all_relations
+    ∙ (ap (λ b. p r && b) (any_of_all r) ∙ and_true (p r))
+
+pub filter_same : (p q : Allen → Bool) → ((r : Allen) → p r ≡ q r) → (xs : List Allen) → filter p xs ≡ filter q xs
+filter_same p q e [] = refl
+filter_same p q e (x ∷ xs) = rw (e x, filter_same p q e xs) refl
+
+pub filtered_itself : (p : Allen → Bool) → filter (is_among (filter p all_relations)) all_relations ≡ filter p all_relations
+filtered_itself p = filter_same (is_among (filter p all_relations)) p (among_filtered p) all_relations

@@ -1,6 +1,7 @@
 // Sets of relations.
 ghost use Rattle.std.specs.Prelude.{◌≡◌, ◌↔◌, true};
-ghost use Rattle.std.specs.List.{Contains};
+ghost use Rattle.std.specs.List.{Contains, filter};
+ghost use Rattle.crm_allen.specs.Names.{all_relations, is_among};
 
 use crate::Allen;
 use std::marker::Model;
@@ -40,7 +41,8 @@ impl Model for AllenSet {
 impl AllenSet {
     /// Whether it has the relation.
     pub fn has(&self, r: Allen) -> bool
-        ensures { (result ≡ true) ↔ Contains self.now r }
+        ensures test { result ≡ is_among self.now r }
+        ensures listed { (result ≡ true) ↔ Contains self.now r }
     {
         match r {
             Allen::Before => self.before,
@@ -57,5 +59,12 @@ impl AllenSet {
             Allen::Met => self.met,
             Allen::After => self.after,
         }
+    }
+
+    /// Does nothing; its contract says that each relation is listed at most once and in its place.
+    pub fn conditions(&self)
+        ensures { filter (is_among self.now) all_relations ≡ self.now }
+    {
+        let _before = self.before;
     }
 }
