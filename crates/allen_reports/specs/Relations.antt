@@ -1,6 +1,7 @@
 -- The texts of relations.
 use Rattle.std.specs.Prelude.{ℕ, List, [], ◌∷◌, ◌++◌, nat_lt, if◌then◌else◌, codes, flat_map, Option, Some, None}
 use Rattle.std.specs.Fmt.{decimal}
+use Rattle.crm_outside.specs.Printing.{lines_from}
 use Rattle.order_laws.specs.declared.Order.{Order}
 use Rattle.order_core.specs.Sets.{Orders}
 use Rattle.order_texts.specs.Texts.{placing_line}
@@ -31,7 +32,7 @@ abbrev pub row_text : List Order → List ℕ → ℕ → List ℕ
 row_text orders periods a = flat_map (pair_text orders a) periods
 
 abbrev pub rows_text : List Order → List ℕ → List ℕ
-rows_text orders periods = flat_map (row_text orders periods) periods
+rows_text orders periods = lines_from (λ _ a. row_text orders periods a) 0 periods
 
 unfoldable pub relation_line : Allen → List ℕ
 relation_line r = codes "relation" ++ (name_text r ++ codes "\n")
@@ -42,4 +43,4 @@ example_text set a b r = relation_line r ++ placing_line (relation_name r) (exam
 
 -- the possible relations of two periods, each with its example
 abbrev pub examples_text : Orders → ℕ → ℕ → List ℕ
-examples_text set a b = flat_map (example_text set a b) (possible_relations set.list a b)
+examples_text set a b = lines_from (λ _ r. example_text set a b r) 0 (possible_relations set.list a b)

@@ -41,11 +41,8 @@ fn append_row(analysis: &Analysis, a: u32, line: &mut Vec<u8>) -> Result<(), All
     requires { a < analysis.now.set.extents }
     ensures { OnOk result (line.new.items ≡ line.old.items ++ row_text analysis.now.set.list analysis.now.periods a) }
 {
-    for i in 0..analysis.len() {
-        let Some(b) = analysis.period(i) else {
-            unreachable!()
-        };
-        append_pair(analysis, a, b, line)?;
+    for b in analysis.periods().as_slice() {
+        append_pair(analysis, a, *b, line)?;
     }
     Ok(())
 }
@@ -73,11 +70,8 @@ fn print_rows<W: Sink>(
 ) -> Result<(), PrintFault>
     ensures { Prints W.written W.faults W.sure out.old out.new (rows_text analysis.now.set.list analysis.now.periods) result }
 {
-    for i in 0..analysis.len() {
-        let Some(a) = analysis.period(i) else {
-            unreachable!()
-        };
-        print_row(analysis, a, line, out)?;
+    for a in analysis.periods().as_slice() {
+        print_row(analysis, *a, line, out)?;
     }
     Ok(())
 }

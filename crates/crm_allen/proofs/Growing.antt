@@ -112,7 +112,11 @@ level_entry Lt s h k = no_nothing h
 level_entry Nothing Lt h k = no_nothing k
 level_entry Le Lt h k = no_nothing k
 
-is_false : (b : Bool) → (b ≡ true → ⊥) → b ≡ false
+-- x at or before y, and y at or before x
+abbrev pub level : List Order → Point → Point → List Order
+level orders x y = assumed y x false ∷ assumed x y false ∷ orders
+
+pub is_false : (b : Bool) → (b ≡ true → ⊥) → b ≡ false
 is_false true h = absurd (h refl)
 is_false false h = refl
 
@@ -201,10 +205,6 @@ module _ (extents : ℕ) (dates : List ℤ) where
   -- x at or before y may be added where y is not known to be before x
   pub weak_added : (orders : List Order) → IsAcyclic orders → (x y : Point) → IsIn x → IsIn y → (IsLt orders y x → ⊥) → IsAcyclic (assumed x y false ∷ orders)
   weak_added orders good x y in_x in_y open_way = grown orders good (assumed x y false) in_x in_y (weak_stand orders good x y in_x in_y open_way)
-
-  -- both ways
-  abbrev pub level : List Order → Point → Point → List Order
-  level orders x y = assumed y x false ∷ assumed x y false ∷ orders
 
   level_open : (orders : List Order) → IsAcyclic orders → (x y : Point) → IsIn x → IsIn y → (IsLt orders x y → ⊥) → (IsLt orders y x → ⊥) →
       IsLt (assumed x y false ∷ orders) x y → ⊥

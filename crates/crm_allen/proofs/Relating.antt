@@ -17,8 +17,8 @@ use Rattle.order_laws.proofs.Placed.{consistent, follows_always}
 use Rattle.order_extension.proofs.Further.{satisfied_both}
 use Rattle.crm_allen.specs.declared.relations.Allen.{Allen}
 use Rattle.crm_allen.specs.declared.relations.Allen.TheVariants.{Before, Meets, Overlaps, Finished, Contains, Starts, Equal, Started, During, Finishes, Overlapped, Met, After}
-use Rattle.crm_allen.specs.Relations.{assumed, relation_orders}
-use Rattle.crm_allen.specs.Possible.{may_be_before, may_be_at, is_open}
+use Rattle.crm_allen.specs.Relations.{assumed, overlaps_orders, finished_orders, contains_orders, relation_orders}
+use Rattle.crm_allen.specs.Possible.{may_be_before, may_be_at, may_overlap, may_be_finished, may_contain, is_open}
 use Rattle.crm_allen.proofs.Growing.{IsLe, IsLt, IsBy, IsAcyclic, IsIn, IsStanding, lt_le, le_before, lt_before, orderly, never_lt, lt_or, satisfied_with, strict_added, level, level_added, is_false}
 
 and_first : (p q : Bool) → (p && q) ≡ true → p ≡ true
@@ -246,23 +246,32 @@ module _ (extents : ℕ) (dates : List ℤ) (orders : List Order) (good : IsAcyc
           (λ e. not_before orders (End a) (End b) h (same_lt_from_a (End b) e))
           (λ e. not_behind orders (End a) (End b) h (same_lt_from_b (End a) e)))
 
-  pub open_possible : (r : Allen) (a b : ℕ) → a < extents → b < extents → is_open orders a b r ≡ true → IsConsistent (orders ++ relation_orders r a b) dates extents
-  open_possible Before a b in_a in_b h = possible_before a b in_a in_b h
-  open_possible Meets a b in_a in_b h = possible_meets a b in_a in_b h
-  open_possible Overlaps a b in_a in_b h =
+  overlap : (a b : ℕ) → a < extents → b < extents → may_overlap orders a b ≡ true → IsConsistent (orders ++ overlaps_orders a b) dates extents
+  overlap a b in_a in_b h =
       let t : (may_be_before orders (Start b) (End a) && may_be_before orders (End a) (End b)) ≡ true = and_second (may_be_before orders (Start a) (Start b)) _ h in
       possible_overlaps a b in_a in_b (and_first _ (may_be_before orders (Start b) (End a) && may_be_before orders (End a) (End b)) h)
       (and_first _ (may_be_before orders (End a) (End b)) t) (and_second (may_be_before orders (Start b) (End a)) _ t)
-  open_possible Finished a b in_a in_b h = possible_finished a b in_a in_b (and_first _ (may_be_at orders (End a) (End b)) h) (and_second (may_be_before orders (Start a) (Start b)) _ h)
-  open_possible Contains a b in_a in_b h = possible_contains a b in_a in_b (and_first _ (may_be_before orders (End b) (End a)) h) (and_second (may_be_before orders (Start a) (Start b)) _ h)
+
+  finish : (a b : ℕ) → a < extents → b < extents → may_be_finished orders a b ≡ true → IsConsistent (orders ++ finished_orders a b) dates extents
+  finish a b in_a in_b h = possible_finished a b in_a in_b (and_first _ (may_be_at orders (End a) (End b)) h) (and_second (may_be_before orders (Start a) (Start b)) _ h)
+
+  contain : (a b : ℕ) → a < extents → b < extents → may_contain orders a b ≡ true → IsConsistent (orders ++ contains_orders a b) dates extents
+  contain a b in_a in_b h = possible_contains a b in_a in_b (and_first _ (may_be_before orders (End b) (End a)) h) (and_second (may_be_before orders (Start a) (Start b)) _ h)
+
+  pub open_possible : (r : Allen) (a b : ℕ) → a < extents → b < extents → is_open orders a b r ≡ true → IsConsistent (orders ++ relation_orders r a b) dates extents
+  open_possible Before a b in_a in_b h = possible_before a b in_a in_b h
+  open_possible Meets a b in_a in_b h = possible_meets a b in_a in_b h
+  open_possible Overlaps a b in_a in_b h = overlap a b in_a in_b h
+  open_possible Finished a b in_a in_b h = finish a b in_a in_b h
+  open_possible Contains a b in_a in_b h = contain a b in_a in_b h
   open_possible Starts a b in_a in_b h = possible_starts a b in_a in_b (and_first _ (may_be_before orders (End a) (End b)) h) (and_second (may_be_at orders (Start a) (Start b)) _ h)
   open_possible Equal a b in_a in_b h = possible_equal a b in_a in_b (and_first _ (may_be_at orders (End a) (End b)) h) (and_second (may_be_at orders (Start a) (Start b)) _ h)
   open_possible Started a b in_a in_b h = possible_started a b in_a in_b (and_first _ (may_be_before orders (End b) (End a)) h) (and_second (may_be_at orders (Start a) (Start b)) _ h)
-  open_possible During a b in_a in_b h = open_possible Contains b a in_b in_a h
-  open_possible Finishes a b in_a in_b h = open_possible Finished b a in_b in_a h
-  open_possible Overlapped a b in_a in_b h = open_possible Overlaps b a in_b in_a h
-  open_possible Met a b in_a in_b h = open_possible Meets b a in_b in_a h
-  open_possible After a b in_a in_b h = open_possible Before b a in_b in_a h
+  open_possible During a b in_a in_b h = contain b a in_b in_a h
+  open_possible Finishes a b in_a in_b h = finish b a in_b in_a h
+  open_possible Overlapped a b in_a in_b h = overlap b a in_b in_a h
+  open_possible Met a b in_a in_b h = possible_meets b a in_b in_a h
+  open_possible After a b in_a in_b h = possible_before b a in_b in_a h
 
 -- what a placing of the orders has, nothing that follows speaks against
 module _ (extents : ℕ) (dates : List ℤ) (orders : List Order) (placing : List Position) (size : length placing ≡ 2 * extents) (sat : IsSatisfied orders dates placing) where
@@ -283,19 +292,28 @@ module _ (extents : ℕ) (dates : List ℤ) (orders : List Order) (placing : Lis
       (closed_not (is_strict (reach_between orders y x))
       (λ e. never_back (position_at dates placing y) (position_at dates placing x) (follows_always orders extents dates y x true (entry_follows orders y x true e) placing size sat) h))
 
+  overlapping : (a b : ℕ) → IsSatisfied (overlaps_orders a b) dates placing → may_overlap orders a b ≡ true
+  overlapping a b h =
+      and_both _ _ (placed_before (Start a) (Start b) (h 0 (omega arith)))
+      (and_both _ _ (placed_before (Start b) (End a) (h 1 (omega arith))) (placed_before (End a) (End b) (h 2 (omega arith))))
+
+  finishing : (a b : ℕ) → IsSatisfied (finished_orders a b) dates placing → may_be_finished orders a b ≡ true
+  finishing a b h = and_both _ _ (placed_before (Start a) (Start b) (h 0 (omega arith))) (placed_at (End a) (End b) (h 1 (omega arith)) (h 2 (omega arith)))
+
+  containing : (a b : ℕ) → IsSatisfied (contains_orders a b) dates placing → may_contain orders a b ≡ true
+  containing a b h = and_both _ _ (placed_before (Start a) (Start b) (h 0 (omega arith))) (placed_before (End b) (End a) (h 1 (omega arith)))
+
   pub placed_open : (r : Allen) (a b : ℕ) → IsSatisfied (relation_orders r a b) dates placing → is_open orders a b r ≡ true
   placed_open Before a b h = placed_before (End a) (Start b) (h 0 (omega arith))
   placed_open Meets a b h = placed_at (End a) (Start b) (h 0 (omega arith)) (h 1 (omega arith))
-  placed_open Overlaps a b h =
-      and_both _ _ (placed_before (Start a) (Start b) (h 0 (omega arith)))
-      (and_both _ _ (placed_before (Start b) (End a) (h 1 (omega arith))) (placed_before (End a) (End b) (h 2 (omega arith))))
-  placed_open Finished a b h = and_both _ _ (placed_before (Start a) (Start b) (h 0 (omega arith))) (placed_at (End a) (End b) (h 1 (omega arith)) (h 2 (omega arith)))
-  placed_open Contains a b h = and_both _ _ (placed_before (Start a) (Start b) (h 0 (omega arith))) (placed_before (End b) (End a) (h 1 (omega arith)))
+  placed_open Overlaps a b h = overlapping a b h
+  placed_open Finished a b h = finishing a b h
+  placed_open Contains a b h = containing a b h
   placed_open Starts a b h = and_both _ _ (placed_at (Start a) (Start b) (h 0 (omega arith)) (h 1 (omega arith))) (placed_before (End a) (End b) (h 2 (omega arith)))
   placed_open Equal a b h = and_both _ _ (placed_at (Start a) (Start b) (h 0 (omega arith)) (h 1 (omega arith))) (placed_at (End a) (End b) (h 2 (omega arith)) (h 3 (omega arith)))
   placed_open Started a b h = and_both _ _ (placed_at (Start a) (Start b) (h 0 (omega arith)) (h 1 (omega arith))) (placed_before (End b) (End a) (h 2 (omega arith)))
-  placed_open During a b h = placed_open Contains b a h
-  placed_open Finishes a b h = placed_open Finished b a h
-  placed_open Overlapped a b h = placed_open Overlaps b a h
-  placed_open Met a b h = placed_open Meets b a h
-  placed_open After a b h = placed_open Before b a h
+  placed_open During a b h = containing b a h
+  placed_open Finishes a b h = finishing b a h
+  placed_open Overlapped a b h = overlapping b a h
+  placed_open Met a b h = placed_at (End b) (Start a) (h 0 (omega arith)) (h 1 (omega arith))
+  placed_open After a b h = placed_before (End b) (Start a) (h 0 (omega arith))

@@ -17,21 +17,30 @@ may_be_before orders x y = not (is_known (reach_between orders y x))
 abbrev pub may_be_at : List Order → Point → Point → Bool
 may_be_at orders x y = not (is_strict (reach_between orders x y)) && not (is_strict (reach_between orders y x))
 
+abbrev pub may_overlap : List Order → ℕ → ℕ → Bool
+may_overlap orders a b = may_be_before orders (Start a) (Start b) && (may_be_before orders (Start b) (End a) && may_be_before orders (End a) (End b))
+
+abbrev pub may_be_finished : List Order → ℕ → ℕ → Bool
+may_be_finished orders a b = may_be_before orders (Start a) (Start b) && may_be_at orders (End a) (End b)
+
+abbrev pub may_contain : List Order → ℕ → ℕ → Bool
+may_contain orders a b = may_be_before orders (Start a) (Start b) && may_be_before orders (End b) (End a)
+
 -- nothing that follows speaks against any of the comparisons that make the relation
 abbrev pub is_open : List Order → ℕ → ℕ → Allen → Bool
 is_open orders a b Before = may_be_before orders (End a) (Start b)
 is_open orders a b Meets = may_be_at orders (End a) (Start b)
-is_open orders a b Overlaps = may_be_before orders (Start a) (Start b) && (may_be_before orders (Start b) (End a) && may_be_before orders (End a) (End b))
-is_open orders a b Finished = may_be_before orders (Start a) (Start b) && may_be_at orders (End a) (End b)
-is_open orders a b Contains = may_be_before orders (Start a) (Start b) && may_be_before orders (End b) (End a)
+is_open orders a b Overlaps = may_overlap orders a b
+is_open orders a b Finished = may_be_finished orders a b
+is_open orders a b Contains = may_contain orders a b
 is_open orders a b Starts = may_be_at orders (Start a) (Start b) && may_be_before orders (End a) (End b)
 is_open orders a b Equal = may_be_at orders (Start a) (Start b) && may_be_at orders (End a) (End b)
 is_open orders a b Started = may_be_at orders (Start a) (Start b) && may_be_before orders (End b) (End a)
-is_open orders a b During = is_open orders b a Contains
-is_open orders a b Finishes = is_open orders b a Finished
-is_open orders a b Overlapped = is_open orders b a Overlaps
-is_open orders a b Met = is_open orders b a Meets
-is_open orders a b After = is_open orders b a Before
+is_open orders a b During = may_contain orders b a
+is_open orders a b Finishes = may_be_finished orders b a
+is_open orders a b Overlapped = may_overlap orders b a
+is_open orders a b Met = may_be_at orders (End b) (Start a)
+is_open orders a b After = may_be_before orders (End b) (Start a)
 
 abbrev pub possible_relations : List Order → ℕ → ℕ → List Allen
 possible_relations orders a b = filter (is_open orders a b) all_relations

@@ -22,21 +22,36 @@ before x y = assumed x y true
 abbrev pub at : Point → Point → List Order
 at x y = assumed x y false ∷ assumed y x false ∷ []
 
--- the orders that give the relation of a to b
+abbrev pub before_orders : ℕ → ℕ → List Order
+before_orders a b = before (End a) (Start b) ∷ []
+
+abbrev pub meets_orders : ℕ → ℕ → List Order
+meets_orders a b = at (End a) (Start b)
+
+abbrev pub overlaps_orders : ℕ → ℕ → List Order
+overlaps_orders a b = before (Start a) (Start b) ∷ before (Start b) (End a) ∷ before (End a) (End b) ∷ []
+
+abbrev pub finished_orders : ℕ → ℕ → List Order
+finished_orders a b = before (Start a) (Start b) ∷ at (End a) (End b)
+
+abbrev pub contains_orders : ℕ → ℕ → List Order
+contains_orders a b = before (Start a) (Start b) ∷ before (End b) (End a) ∷ []
+
+-- the orders that give the relation of a to b; a converse has those of its relation with a and b exchanged
 abbrev pub relation_orders : Allen → ℕ → ℕ → List Order
-relation_orders Before a b = before (End a) (Start b) ∷ []
-relation_orders Meets a b = at (End a) (Start b)
-relation_orders Overlaps a b = before (Start a) (Start b) ∷ before (Start b) (End a) ∷ before (End a) (End b) ∷ []
-relation_orders Finished a b = before (Start a) (Start b) ∷ at (End a) (End b)
-relation_orders Contains a b = before (Start a) (Start b) ∷ before (End b) (End a) ∷ []
+relation_orders Before a b = before_orders a b
+relation_orders Meets a b = meets_orders a b
+relation_orders Overlaps a b = overlaps_orders a b
+relation_orders Finished a b = finished_orders a b
+relation_orders Contains a b = contains_orders a b
 relation_orders Starts a b = at (Start a) (Start b) ++ before (End a) (End b) ∷ []
 relation_orders Equal a b = at (Start a) (Start b) ++ at (End a) (End b)
 relation_orders Started a b = at (Start a) (Start b) ++ before (End b) (End a) ∷ []
-relation_orders During a b = relation_orders Contains b a
-relation_orders Finishes a b = relation_orders Finished b a
-relation_orders Overlapped a b = relation_orders Overlaps b a
-relation_orders Met a b = relation_orders Meets b a
-relation_orders After a b = relation_orders Before b a
+relation_orders During a b = contains_orders b a
+relation_orders Finishes a b = finished_orders b a
+relation_orders Overlapped a b = overlaps_orders b a
+relation_orders Met a b = meets_orders b a
+relation_orders After a b = before_orders b a
 
 -- some placing satisfies all orders of the set, and has the relation
 abbrev pub IsPossible : Orders → ℕ → ℕ → Allen → Type 0

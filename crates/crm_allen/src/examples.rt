@@ -1,5 +1,5 @@
 // A placing that has a relation.
-ghost use Rattle.std.specs.Prelude.{◌≡◌, ◌≢◌, ◌+◌, ◌<◌, ◌^◌, length, IfOk};
+ghost use Rattle.std.specs.Prelude.{◌≡◌, ◌≢◌, ◌+◌, ◌<◌, ◌^◌, false, true, length, IfOk};
 ghost use Rattle.order_laws.specs.Chains.{HasCycle};
 ghost use Rattle.crm_allen.specs.Relations.{IsPossible, example_placing};
 ghost use Rattle.crm_allen.specs.Relations as spec;

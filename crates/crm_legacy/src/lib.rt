@@ -2,6 +2,7 @@
 #![tactic(auto)]
 
 mod gathering;
+pub mod laws;
 mod legacy;
 mod moving;
 mod names;
