@@ -129,7 +129,7 @@ pub fn report_allen_pair<W: Sink>(
     ensures { Writes W.written W.faults W.sure out.old out.new (allen_pair_report records.now a.now b.now) result }
 {
     match modern(alloc, records) {
-        Ok(records) => tell_question(alloc, &records, a, b, out),
+        Ok(current) => tell_question(alloc, &current, a, b, out),
         Err(fault) => tell_fault(alloc, fault, out),
     }
 }

@@ -91,11 +91,7 @@ fn print_lines<W: Sink>(
     Ok(())
 }
 
-fn tell_lines<W: Sink>(
-    alloc: Global,
-    records: &Records,
-    out: &mut W,
-) -> Result<Status, ReportFault>
+fn tell_lines<W: Sink>(alloc: Global, records: &Records, out: &mut W) -> Result<Status, ReportFault>
     ensures { Writes W.written W.faults W.sure out.old out.new (spec.lines_report records.now) result }
 {
     print_lines(alloc, &records.names, &records.triples, out)?;
@@ -114,7 +110,7 @@ pub fn report_legacy<W: Sink>(
     ensures { Writes W.written W.faults W.sure out.old out.new (legacy_report records.now) result }
 {
     match modern(alloc, records) {
-        Ok(records) => tell_lines(alloc, &records, out),
+        Ok(current) => tell_lines(alloc, &current, out),
         Err(fault) => tell_fault(alloc, fault, out),
     }
 }

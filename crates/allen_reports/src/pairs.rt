@@ -1,9 +1,10 @@
 // The relations of two periods, each with a placing that has it.
-ghost use Rattle.std.specs.Prelude.{◌≡◌, ◌<◌, ◌≤◌, length, flat_map};
+ghost use Rattle.std.specs.Prelude.{◌≡◌, ◌<◌, ◌≤◌, length};
+ghost use Rattle.std.specs.List.{Contains};
 ghost use Rattle.order_laws.specs.Chains.{HasCycle};
 ghost use Rattle.crm_outside.specs.Printing.{Prints};
 ghost use Rattle.order_analysis.specs.Subjects.{cycle_of};
-ghost use Rattle.crm_allen.specs.Possible.{possible_relations};
+ghost use Rattle.crm_allen.specs.declared.relations.Allen.{Allen};
 ghost use Rattle.crm_allen.specs.Relations.{IsPossible};
 ghost use Rattle.allen_reports.specs.Relations.{example_text, examples_text, relation_line, text_if};
 ghost use Rattle.allen_reports.specs.Reports.{text_by};
@@ -64,14 +65,13 @@ fn print_if_possible<W: Sink>(
     requires few { length analysis.now.set.list ≤ 65536 }
     requires left { pair.left < analysis.now.set.extents }
     requires right { pair.right < analysis.now.set.extents }
-    requires consistent { ¬ HasCycle analysis.now.set.list }
-    requires relations { relations.now ≡ possible_relations analysis.now.set.list pair.left pair.right }
+    requires possible { (q : Allen) → Contains relations.now q → IsPossible analysis.now.set pair.left pair.right q }
     ensures { Prints W.written W.faults W.sure out.old out.new (text_if relations.now (example_text analysis.now.set pair.left pair.right) r) result }
 {
-    if !relations.has(r) {
-        return print_text(out, b"");
+    if relations.has(r) {
+        return print_example(analysis, pair, r, line, out);
     }
-    print_example(analysis, pair, r, line, out)
+    Ok(())
 }
 
 fn print_examples<W: Sink>(
@@ -95,11 +95,7 @@ fn print_examples<W: Sink>(
 }
 
 /// Prints the possible relations of two periods, each with its example, or the cycle that refutes the orders.
-pub fn print_pair<W: Sink>(
-    analysis: &Analysis,
-    pair: Pair,
-    out: &mut W,
-) -> Result<(), PrintFault>
+pub fn print_pair<W: Sink>(analysis: &Analysis, pair: Pair, out: &mut W) -> Result<(), PrintFault>
     requires few { length analysis.now.set.list ≤ 65536 }
     requires left { pair.left < analysis.now.set.extents }
     requires right { pair.right < analysis.now.set.extents }

@@ -2,6 +2,7 @@
 ghost use Rattle.std.specs.Prelude.{◌≡◌, ◌++◌, ◌<◌, length, OnOk, IfOk, string_bytes, option_map};
 ghost use Rattle.order_laws.specs.Chains.{HasCycle};
 ghost use Rattle.crm_outside.specs.Printing.{Prints};
+ghost use Rattle.order_core.specs.Sets.{AreExtents};
 ghost use Rattle.order_analysis.specs.Subjects.{cycle_of};
 ghost use Rattle.triple_pool.specs.Pool.{number_from};
 ghost use Rattle.report_base.specs.Reports.{IsEnding, Writes, findings_from};
@@ -37,11 +38,18 @@ fn append_pair(analysis: &Analysis, a: u32, b: u32, line: &mut Vec<u8>) -> Resul
     append_relations(a, b, &relations, line)
 }
 
-fn append_row(analysis: &Analysis, a: u32, line: &mut Vec<u8>) -> Result<(), AllocError>
-    requires { a < analysis.now.set.extents }
-    ensures { OnOk result (line.new.items ≡ line.old.items ++ row_text analysis.now.set.list analysis.now.periods a) }
+// The lines of a period and each later one.
+fn append_row(
+    analysis: &Analysis,
+    periods: &[u32],
+    a: u32,
+    line: &mut Vec<u8>,
+) -> Result<(), AllocError>
+    requires left { a < analysis.now.set.extents }
+    requires within { AreExtents analysis.now.set.extents periods.now }
+    ensures { OnOk result (line.new.items ≡ line.old.items ++ row_text analysis.now.set.list periods.now a) }
 {
-    for b in analysis.periods().as_slice() {
+    for b in periods {
         append_pair(analysis, a, *b, line)?;
     }
     Ok(())
@@ -49,15 +57,17 @@ fn append_row(analysis: &Analysis, a: u32, line: &mut Vec<u8>) -> Result<(), All
 
 fn print_row<W: Sink>(
     analysis: &Analysis,
+    periods: &[u32],
     a: u32,
     line: &mut Vec<u8>,
     out: &mut W,
 ) -> Result<(), PrintFault>
-    requires { a < analysis.now.set.extents }
-    ensures { Prints W.written W.faults W.sure out.old out.new (row_text analysis.now.set.list analysis.now.periods a) result }
+    requires left { a < analysis.now.set.extents }
+    requires within { AreExtents analysis.now.set.extents periods.now }
+    ensures { Prints W.written W.faults W.sure out.old out.new (row_text analysis.now.set.list periods.now a) result }
 {
     line.clear();
-    let Ok(()) = append_row(analysis, a, line) else {
+    let Ok(()) = append_row(analysis, periods, a, line) else {
         return Err(PrintFault::Memory);
     };
     print_text(out, line.as_slice())
@@ -65,13 +75,15 @@ fn print_row<W: Sink>(
 
 fn print_rows<W: Sink>(
     analysis: &Analysis,
+    periods: &[u32],
     line: &mut Vec<u8>,
     out: &mut W,
 ) -> Result<(), PrintFault>
-    ensures { Prints W.written W.faults W.sure out.old out.new (rows_text analysis.now.set.list analysis.now.periods) result }
+    requires { AreExtents analysis.now.set.extents periods.now }
+    ensures { Prints W.written W.faults W.sure out.old out.new (rows_text analysis.now.set.list periods.now) result }
 {
-    for a in analysis.periods().as_slice() {
-        print_row(analysis, *a, line, out)?;
+    for a in periods {
+        print_row(analysis, periods, *a, line, out)?;
     }
     Ok(())
 }
@@ -84,7 +96,7 @@ fn print_consistent<W: Sink>(
     ensures { Prints W.written W.faults W.sure out.old out.new (spec.consistent_text analysis.now.set analysis.now.periods) result }
 {
     print_text(out, b"consistent\n")?;
-    print_rows(analysis, line, out)
+    print_rows(analysis, analysis.periods().as_slice(), line, out)
 }
 
 // The relations of each two periods, or the cycle that refutes the orders.
@@ -137,11 +149,7 @@ fn tell_relations<W: Sink>(
     Ok(status_of(analysis.cycle()))
 }
 
-fn tell_table<W: Sink>(
-    alloc: Global,
-    records: &Records,
-    out: &mut W,
-) -> Result<Status, ReportFault>
+fn tell_table<W: Sink>(alloc: Global, records: &Records, out: &mut W) -> Result<Status, ReportFault>
     ensures { Writes W.written W.faults W.sure out.old out.new (table_report records.now) result }
 {
     match take_survey(alloc, records) {
@@ -163,7 +171,7 @@ pub fn report_allen<W: Sink>(
     ensures { Writes W.written W.faults W.sure out.old out.new (allen_report records.now) result }
 {
     match modern(alloc, records) {
-        Ok(records) => tell_table(alloc, &records, out),
+        Ok(current) => tell_table(alloc, &current, out),
         Err(fault) => tell_fault(alloc, fault, out),
     }
 }

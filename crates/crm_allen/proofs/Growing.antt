@@ -181,11 +181,14 @@ module _ (extents : ℕ) (dates : List ℤ) where
       IsStanding (delaying_placing orders extents dates o.high) o → IsAcyclic (o ∷ orders)
   grown orders good o in_low in_high stands = record {
     set = set_with o orders good.set in_low in_high;
-    acyclic = λ cycle. cycle_refutes (o ∷ orders) dates extents cycle
-        (delaying_placing orders extents dates o.high,
-        (delay_size orders good o.high in_high,
+    acyclic = λ cycle. cycle_refutes (o ∷ orders) dates extents cycle (
+      delaying_placing orders extents dates o.high,
+      (
+        delay_size orders good o.high in_high,
         satisfied_with (delaying_placing orders extents dates o.high) o orders stands
-        (delaying_satisfies orders extents dates good.set good.acyclic o.high in_high)));
+            (delaying_satisfies orders extents dates good.set good.acyclic o.high in_high),
+      ),
+    );
   }
 
   -- x before y may be added where y is not known to be at or before x

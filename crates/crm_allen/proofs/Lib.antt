@@ -1,4 +1,6 @@
+pub mod Deciding
 pub mod Growing
 pub mod InRange
 pub mod Listed
 pub mod Relating
+pub mod Standing

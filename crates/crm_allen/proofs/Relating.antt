@@ -45,15 +45,15 @@ closed_not false h = refl
 level_le : (orders : List Order) (x y u v : Point) → IsLe (level orders x y) u v → IsLe orders u v ⊎ (IsLe orders u x ⊎ IsLe orders u y)
 level_le orders x y u v h =
     elim (le_before (assumed x y false ∷ orders) y x false u v h) [
-      | inl e ↦ elim (le_before orders x y false u v e) [ | inl k ↦ inl k | inr w ↦ inr (inl w.first) ]
-      | inr w ↦ elim (le_before orders x y false u y w.first) [ | inl k ↦ inr (inr k) | inr z ↦ inr (inl z.first) ]
+      | inl e ↦ elim (le_before orders x y false u v e) [ inl k ↦ inl k | inr w ↦ inr (inl w.first) ]
+      | inr w ↦ elim (le_before orders x y false u y w.first) [ inl k ↦ inr (inr k) | inr z ↦ inr (inl z.first) ]
     ]
 
 level_lt : (orders : List Order) (x y u v : Point) → IsLt (level orders x y) u v → IsLt orders u v ⊎ (IsLe orders u x ⊎ IsLe orders u y)
 level_lt orders x y u v h =
     elim (lt_before (assumed x y false ∷ orders) y x false u v h) [
-      | inl e ↦ elim (lt_before orders x y false u v e) [ | inl k ↦ inl k | inr w ↦ inr (inl w.first) ]
-      | inr w ↦ elim (le_before orders x y false u y w.first) [ | inl k ↦ inr (inr k) | inr z ↦ inr (inl z.first) ]
+      | inl e ↦ elim (lt_before orders x y false u v e) [ inl k ↦ inl k | inr w ↦ inr (inl w.first) ]
+      | inr w ↦ elim (le_before orders x y false u y w.first) [ inl k ↦ inr (inr k) | inr z ↦ inr (inl z.first) ]
     ]
 
 module _ (extents : ℕ) (dates : List ℤ) (orders : List Order) where
@@ -72,29 +72,44 @@ module _ (extents : ℕ) (dates : List ℤ) (orders : List Order) where
   by_one : (o : Order) → IsAcyclic extents dates (o ∷ orders) → IsConsistent (orders ++ o ∷ []) dates extents
   by_one o good =
       let c : IsConsistent (o ∷ orders) dates extents = consistent (o ∷ orders) extents dates good.set good.acyclic in
-      let p : List Position = c.0 in
-      (p, (c.1.0, with_more p (o ∷ []) (rest_of p o orders c.1.1)
-        (satisfied_with extents dates p o [] (first_of p o orders c.1.1) (none p))))
+      let p : List Position = c.0 in (
+        p,
+        (
+          c.1.0,
+          with_more p (o ∷ []) (rest_of p o orders c.1.1)
+              (satisfied_with extents dates p o [] (first_of p o orders c.1.1) (none p)),
+        ),
+      )
 
   by_two : (o q : Order) → IsAcyclic extents dates (q ∷ o ∷ orders) → IsConsistent (orders ++ o ∷ q ∷ []) dates extents
   by_two o q good =
       let c : IsConsistent (q ∷ o ∷ orders) dates extents = consistent (q ∷ o ∷ orders) extents dates good.set good.acyclic in
       let p : List Position = c.0 in
-      let d : IsSatisfied (o ∷ orders) dates p = rest_of p q (o ∷ orders) c.1.1 in
-      (p, (c.1.0, with_more p (o ∷ q ∷ []) (rest_of p o orders d)
-        (satisfied_with extents dates p o (q ∷ []) (first_of p o orders d)
-        (satisfied_with extents dates p q [] (first_of p q (o ∷ orders) c.1.1) (none p)))))
+      let d : IsSatisfied (o ∷ orders) dates p = rest_of p q (o ∷ orders) c.1.1 in (
+        p,
+        (
+          c.1.0,
+          with_more p (o ∷ q ∷ []) (rest_of p o orders d)
+              (satisfied_with extents dates p o (q ∷ []) (first_of p o orders d)
+              (satisfied_with extents dates p q [] (first_of p q (o ∷ orders) c.1.1) (none p))),
+        ),
+      )
 
   by_three : (o q r : Order) → IsAcyclic extents dates (r ∷ q ∷ o ∷ orders) → IsConsistent (orders ++ o ∷ q ∷ r ∷ []) dates extents
   by_three o q r good =
       let c : IsConsistent (r ∷ q ∷ o ∷ orders) dates extents = consistent (r ∷ q ∷ o ∷ orders) extents dates good.set good.acyclic in
       let p : List Position = c.0 in
       let d : IsSatisfied (q ∷ o ∷ orders) dates p = rest_of p r (q ∷ o ∷ orders) c.1.1 in
-      let e : IsSatisfied (o ∷ orders) dates p = rest_of p q (o ∷ orders) d in
-      (p, (c.1.0, with_more p (o ∷ q ∷ r ∷ []) (rest_of p o orders e)
-        (satisfied_with extents dates p o (q ∷ r ∷ []) (first_of p o orders e)
-        (satisfied_with extents dates p q (r ∷ []) (first_of p q (o ∷ orders) d)
-        (satisfied_with extents dates p r [] (first_of p r (q ∷ o ∷ orders) c.1.1) (none p))))))
+      let e : IsSatisfied (o ∷ orders) dates p = rest_of p q (o ∷ orders) d in (
+        p,
+        (
+          c.1.0,
+          with_more p (o ∷ q ∷ r ∷ []) (rest_of p o orders e)
+              (satisfied_with extents dates p o (q ∷ r ∷ []) (first_of p o orders e)
+              (satisfied_with extents dates p q (r ∷ []) (first_of p q (o ∷ orders) d)
+              (satisfied_with extents dates p r [] (first_of p r (q ∷ o ∷ orders) c.1.1) (none p)))),
+        ),
+      )
 
   by_four : (o q r s : Order) → IsAcyclic extents dates (s ∷ r ∷ q ∷ o ∷ orders) → IsConsistent (orders ++ o ∷ q ∷ r ∷ s ∷ []) dates extents
   by_four o q r s good =
@@ -102,12 +117,17 @@ module _ (extents : ℕ) (dates : List ℤ) (orders : List Order) where
       let p : List Position = c.0 in
       let d : IsSatisfied (r ∷ q ∷ o ∷ orders) dates p = rest_of p s (r ∷ q ∷ o ∷ orders) c.1.1 in
       let e : IsSatisfied (q ∷ o ∷ orders) dates p = rest_of p r (q ∷ o ∷ orders) d in
-      let f : IsSatisfied (o ∷ orders) dates p = rest_of p q (o ∷ orders) e in
-      (p, (c.1.0, with_more p (o ∷ q ∷ r ∷ s ∷ []) (rest_of p o orders f)
-        (satisfied_with extents dates p o (q ∷ r ∷ s ∷ []) (first_of p o orders f)
-        (satisfied_with extents dates p q (r ∷ s ∷ []) (first_of p q (o ∷ orders) e)
-        (satisfied_with extents dates p r (s ∷ []) (first_of p r (q ∷ o ∷ orders) d)
-        (satisfied_with extents dates p s [] (first_of p s (r ∷ q ∷ o ∷ orders) c.1.1) (none p)))))))
+      let f : IsSatisfied (o ∷ orders) dates p = rest_of p q (o ∷ orders) e in (
+        p,
+        (
+          c.1.0,
+          with_more p (o ∷ q ∷ r ∷ s ∷ []) (rest_of p o orders f)
+              (satisfied_with extents dates p o (q ∷ r ∷ s ∷ []) (first_of p o orders f)
+              (satisfied_with extents dates p q (r ∷ s ∷ []) (first_of p q (o ∷ orders) e)
+              (satisfied_with extents dates p r (s ∷ []) (first_of p r (q ∷ o ∷ orders) d)
+              (satisfied_with extents dates p s [] (first_of p s (r ∷ q ∷ o ∷ orders) c.1.1) (none p))))),
+        ),
+      )
 
 -- that nothing speaks against a comparison
 module _ (orders : List Order) (x y : Point) where
@@ -169,16 +189,16 @@ module _ (extents : ℕ) (dates : List ℤ) (orders : List Order) (good : IsAcyc
 
       -- no way from the end of a to the end of b is new with that comparison, and none from the end of b is there
       led_from_a : (v : Point) → IsLe (assumed (Start a) (Start b) true ∷ orders) (End a) v → IsLe orders (End a) v
-      led_from_a v e = elim (le_before orders (Start a) (Start b) true (End a) v e) [ | inl k ↦ k | inr w ↦ absurd (no_end_first a in_a w.first) ]
+      led_from_a v e = elim (le_before orders (Start a) (Start b) true (End a) v e) [ inl k ↦ k | inr w ↦ absurd (no_end_first a in_a w.first) ]
 
       led_from_b : (v : Point) → IsLe (assumed (Start a) (Start b) true ∷ orders) (End b) v → IsLe orders (End b) v
-      led_from_b v e = elim (le_before orders (Start a) (Start b) true (End b) v e) [ | inl k ↦ k | inr w ↦ absurd (ahead_contra first w.first) ]
+      led_from_b v e = elim (le_before orders (Start a) (Start b) true (End b) v e) [ inl k ↦ k | inr w ↦ absurd (ahead_contra first w.first) ]
 
       led_lt_from_a : (v : Point) → IsLt (assumed (Start a) (Start b) true ∷ orders) (End a) v → IsLt orders (End a) v
-      led_lt_from_a v e = elim (lt_before orders (Start a) (Start b) true (End a) v e) [ | inl k ↦ k | inr w ↦ absurd (no_end_first a in_a w.first) ]
+      led_lt_from_a v e = elim (lt_before orders (Start a) (Start b) true (End a) v e) [ inl k ↦ k | inr w ↦ absurd (no_end_first a in_a w.first) ]
 
       led_lt_from_b : (v : Point) → IsLt (assumed (Start a) (Start b) true ∷ orders) (End b) v → IsLt orders (End b) v
-      led_lt_from_b v e = elim (lt_before orders (Start a) (Start b) true (End b) v e) [ | inl k ↦ k | inr w ↦ absurd (ahead_contra first w.first) ]
+      led_lt_from_b v e = elim (lt_before orders (Start a) (Start b) true (End b) v e) [ inl k ↦ k | inr w ↦ absurd (ahead_contra first w.first) ]
 
       possible_finished : may_be_at orders (End a) (End b) ≡ true → IsConsistent (orders ++ relation_orders Finished a b) dates extents
       possible_finished h =
@@ -216,16 +236,16 @@ module _ (extents : ℕ) (dates : List ℤ) (orders : List Order) (good : IsAcyc
       same_good = together first
 
       same_from_a : (v : Point) → IsLe (level orders (Start a) (Start b)) (End a) v → IsLe orders (End a) v
-      same_from_a v e = elim (level_le orders (Start a) (Start b) (End a) v e) [ | inl k ↦ k | inr (inl k) ↦ absurd (no_end_first a in_a k) | inr (inr k) ↦ absurd (together_on first k) ]
+      same_from_a v e = elim (level_le orders (Start a) (Start b) (End a) v e) [ inl k ↦ k | inr (inl k) ↦ absurd (no_end_first a in_a k) | inr (inr k) ↦ absurd (together_on first k) ]
 
       same_from_b : (v : Point) → IsLe (level orders (Start a) (Start b)) (End b) v → IsLe orders (End b) v
-      same_from_b v e = elim (level_le orders (Start a) (Start b) (End b) v e) [ | inl k ↦ k | inr (inl k) ↦ absurd (together_back first k) | inr (inr k) ↦ absurd (no_end_first b in_b k) ]
+      same_from_b v e = elim (level_le orders (Start a) (Start b) (End b) v e) [ inl k ↦ k | inr (inl k) ↦ absurd (together_back first k) | inr (inr k) ↦ absurd (no_end_first b in_b k) ]
 
       same_lt_from_a : (v : Point) → IsLt (level orders (Start a) (Start b)) (End a) v → IsLt orders (End a) v
-      same_lt_from_a v e = elim (level_lt orders (Start a) (Start b) (End a) v e) [ | inl k ↦ k | inr (inl k) ↦ absurd (no_end_first a in_a k) | inr (inr k) ↦ absurd (together_on first k) ]
+      same_lt_from_a v e = elim (level_lt orders (Start a) (Start b) (End a) v e) [ inl k ↦ k | inr (inl k) ↦ absurd (no_end_first a in_a k) | inr (inr k) ↦ absurd (together_on first k) ]
 
       same_lt_from_b : (v : Point) → IsLt (level orders (Start a) (Start b)) (End b) v → IsLt orders (End b) v
-      same_lt_from_b v e = elim (level_lt orders (Start a) (Start b) (End b) v e) [ | inl k ↦ k | inr (inl k) ↦ absurd (together_back first k) | inr (inr k) ↦ absurd (no_end_first b in_b k) ]
+      same_lt_from_b v e = elim (level_lt orders (Start a) (Start b) (End b) v e) [ inl k ↦ k | inr (inl k) ↦ absurd (together_back first k) | inr (inr k) ↦ absurd (no_end_first b in_b k) ]
 
       possible_starts : may_be_before orders (End a) (End b) ≡ true → IsConsistent (orders ++ relation_orders Starts a b) dates extents
       possible_starts h =

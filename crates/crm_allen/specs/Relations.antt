@@ -37,6 +37,15 @@ finished_orders a b = before (Start a) (Start b) ∷ at (End a) (End b)
 abbrev pub contains_orders : ℕ → ℕ → List Order
 contains_orders a b = before (Start a) (Start b) ∷ before (End b) (End a) ∷ []
 
+abbrev pub starts_orders : ℕ → ℕ → List Order
+starts_orders a b = at (Start a) (Start b) ++ before (End a) (End b) ∷ []
+
+abbrev pub equal_orders : ℕ → ℕ → List Order
+equal_orders a b = at (Start a) (Start b) ++ at (End a) (End b)
+
+abbrev pub started_orders : ℕ → ℕ → List Order
+started_orders a b = at (Start a) (Start b) ++ before (End b) (End a) ∷ []
+
 -- the orders that give the relation of a to b; a converse has those of its relation with a and b exchanged
 abbrev pub relation_orders : Allen → ℕ → ℕ → List Order
 relation_orders Before a b = before_orders a b
@@ -44,9 +53,9 @@ relation_orders Meets a b = meets_orders a b
 relation_orders Overlaps a b = overlaps_orders a b
 relation_orders Finished a b = finished_orders a b
 relation_orders Contains a b = contains_orders a b
-relation_orders Starts a b = at (Start a) (Start b) ++ before (End a) (End b) ∷ []
-relation_orders Equal a b = at (Start a) (Start b) ++ at (End a) (End b)
-relation_orders Started a b = at (Start a) (Start b) ++ before (End b) (End a) ∷ []
+relation_orders Starts a b = starts_orders a b
+relation_orders Equal a b = equal_orders a b
+relation_orders Started a b = started_orders a b
 relation_orders During a b = contains_orders b a
 relation_orders Finishes a b = finished_orders b a
 relation_orders Overlapped a b = overlaps_orders b a

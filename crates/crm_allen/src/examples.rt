@@ -36,26 +36,100 @@ fn not_after(x: Point, y: Point) -> Order
     assumed(x, y, false)
 }
 
-/// The orders that give the relation of extent a to extent b.
+fn before_orders(alloc: Global, a: u32, b: u32) -> Result<Vec<Order>, AllocError>
+    ensures { IfOk result (λ orders. orders.items ≡ spec.before_orders a b) }
+{
+    vec![in alloc; before(Point::End(a), Point::Start(b))]
+}
+
+fn meets_orders(alloc: Global, a: u32, b: u32) -> Result<Vec<Order>, AllocError>
+    ensures { IfOk result (λ orders. orders.items ≡ spec.meets_orders a b) }
+{
+    vec![in alloc;
+        not_after(Point::End(a), Point::Start(b)),
+        not_after(Point::Start(b), Point::End(a)),
+    ]
+}
+
+fn overlaps_orders(alloc: Global, a: u32, b: u32) -> Result<Vec<Order>, AllocError>
+    ensures { IfOk result (λ orders. orders.items ≡ spec.overlaps_orders a b) }
+{
+    vec![in alloc;
+        before(Point::Start(a), Point::Start(b)),
+        before(Point::Start(b), Point::End(a)),
+        before(Point::End(a), Point::End(b)),
+    ]
+}
+
+fn finished_orders(alloc: Global, a: u32, b: u32) -> Result<Vec<Order>, AllocError>
+    ensures { IfOk result (λ orders. orders.items ≡ spec.finished_orders a b) }
+{
+    vec![in alloc;
+        before(Point::Start(a), Point::Start(b)),
+        not_after(Point::End(a), Point::End(b)),
+        not_after(Point::End(b), Point::End(a)),
+    ]
+}
+
+fn contains_orders(alloc: Global, a: u32, b: u32) -> Result<Vec<Order>, AllocError>
+    ensures { IfOk result (λ orders. orders.items ≡ spec.contains_orders a b) }
+{
+    vec![in alloc;
+        before(Point::Start(a), Point::Start(b)),
+        before(Point::End(b), Point::End(a)),
+    ]
+}
+
+fn starts_orders(alloc: Global, a: u32, b: u32) -> Result<Vec<Order>, AllocError>
+    ensures { IfOk result (λ orders. orders.items ≡ spec.starts_orders a b) }
+{
+    vec![in alloc;
+        not_after(Point::Start(a), Point::Start(b)),
+        not_after(Point::Start(b), Point::Start(a)),
+        before(Point::End(a), Point::End(b)),
+    ]
+}
+
+fn equal_orders(alloc: Global, a: u32, b: u32) -> Result<Vec<Order>, AllocError>
+    ensures { IfOk result (λ orders. orders.items ≡ spec.equal_orders a b) }
+{
+    vec![in alloc;
+        not_after(Point::Start(a), Point::Start(b)),
+        not_after(Point::Start(b), Point::Start(a)),
+        not_after(Point::End(a), Point::End(b)),
+        not_after(Point::End(b), Point::End(a)),
+    ]
+}
+
+fn started_orders(alloc: Global, a: u32, b: u32) -> Result<Vec<Order>, AllocError>
+    ensures { IfOk result (λ orders. orders.items ≡ spec.started_orders a b) }
+{
+    vec![in alloc;
+        not_after(Point::Start(a), Point::Start(b)),
+        not_after(Point::Start(b), Point::Start(a)),
+        before(Point::End(b), Point::End(a)),
+    ]
+}
+
+/// The orders that give the relation of extent a to extent b; a converse has those of its relation, with a and b
+/// exchanged.
 pub fn relation_orders(alloc: Global, r: Allen, a: u32, b: u32) -> Result<OrderList, AllocError>
     ensures { IfOk result (λ orders. orders ≡ spec.relation_orders r a b) }
 {
-    let (a_start, a_end) = (Point::Start(a), Point::End(a));
-    let (b_start, b_end) = (Point::Start(b), Point::End(b));
     let orders = match r {
-        Allen::Before => vec![in alloc; before(a_end, b_start)]?,
-        Allen::Meets => vec![in alloc; not_after(a_end, b_start), not_after(b_start, a_end)]?,
-        Allen::Overlaps => vec![in alloc; before(a_start, b_start), before(b_start, a_end), before(a_end, b_end)]?,
-        Allen::Finished => vec![in alloc; before(a_start, b_start), not_after(a_end, b_end), not_after(b_end, a_end)]?,
-        Allen::Contains => vec![in alloc; before(a_start, b_start), before(b_end, a_end)]?,
-        Allen::Starts => vec![in alloc; not_after(a_start, b_start), not_after(b_start, a_start), before(a_end, b_end)]?,
-        Allen::Equal => vec![in alloc; not_after(a_start, b_start), not_after(b_start, a_start), not_after(a_end, b_end), not_after(b_end, a_end)]?,
-        Allen::Started => vec![in alloc; not_after(a_start, b_start), not_after(b_start, a_start), before(b_end, a_end)]?,
-        Allen::During => vec![in alloc; before(b_start, a_start), before(a_end, b_end)]?,
-        Allen::Finishes => vec![in alloc; before(b_start, a_start), not_after(b_end, a_end), not_after(a_end, b_end)]?,
-        Allen::Overlapped => vec![in alloc; before(b_start, a_start), before(a_start, b_end), before(b_end, a_end)]?,
-        Allen::Met => vec![in alloc; not_after(b_end, a_start), not_after(a_start, b_end)]?,
-        Allen::After => vec![in alloc; before(b_end, a_start)]?,
+        Allen::Before => before_orders(alloc, a, b)?,
+        Allen::Meets => meets_orders(alloc, a, b)?,
+        Allen::Overlaps => overlaps_orders(alloc, a, b)?,
+        Allen::Finished => finished_orders(alloc, a, b)?,
+        Allen::Contains => contains_orders(alloc, a, b)?,
+        Allen::Starts => starts_orders(alloc, a, b)?,
+        Allen::Equal => equal_orders(alloc, a, b)?,
+        Allen::Started => started_orders(alloc, a, b)?,
+        Allen::During => contains_orders(alloc, b, a)?,
+        Allen::Finishes => finished_orders(alloc, b, a)?,
+        Allen::Overlapped => overlaps_orders(alloc, b, a)?,
+        Allen::Met => meets_orders(alloc, b, a)?,
+        Allen::After => before_orders(alloc, b, a)?,
     };
     Ok(OrderList::from_vec(orders))
 }

@@ -1,5 +1,5 @@
 // Laws over the relations: each is the contract of a function with nothing to do.
-ghost use Rattle.std.specs.Prelude.{◌↔◌, ◌<◌, ℕ, ℤ, List};
+ghost use Rattle.std.specs.Prelude.{◌≡◌, ◌↔◌, ◌<◌, ◌*◌, ℕ, List, [], ◌∷◌, length};
 ghost use Rattle.std.specs.List.{Contains};
 ghost use Rattle.order_laws.specs.declared.Position.{Position};
 ghost use Rattle.order_laws.specs.Chains.{HasCycle};
@@ -22,4 +22,12 @@ pub fn examples_have_their_relations()
     ensures { (set : Orders) (a b : ℕ) (r : Allen) → IsSet set.extents set.dates set.list →
         a < set.extents → b < set.extents → IsPossible set a b r →
         IsSatisfied set.list set.dates (example_placing set a b r) × IsSatisfied (relation_orders r a b) set.dates (example_placing set a b r) }
+{}
+
+/// Where one relation alone is possible, two extents have it in every placing that satisfies all orders.
+pub fn single_relations_hold()
+    ensures { (set : Orders) (a b : ℕ) (r : Allen) → IsSet set.extents set.dates set.list → ¬ HasCycle set.list →
+        a < set.extents → b < set.extents → possible_relations set.list a b ≡ r ∷ [] →
+        (placing : List Position) → length placing ≡ 2 * set.extents → IsSatisfied set.list set.dates placing →
+        IsSatisfied (relation_orders r a b) set.dates placing }
 {}

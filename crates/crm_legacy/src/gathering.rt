@@ -7,9 +7,7 @@ ghost use Rattle.crm_legacy.specs.Causes as causes;
 ghost use Rattle.crm_legacy.specs.Causes.{IsCause};
 
 use crm_outside::Text;
-use rdf_terms::{
-    Code, Literal, NameFault, Names, Records, Refusal, Term, Triple, TripleFault,
-};
+use rdf_terms::{Code, Literal, NameFault, Names, Records, Refusal, Term, Triple, TripleFault};
 use std::alloc::{AllocError, Global};
 
 /// Why records have no form in today's properties.
@@ -82,12 +80,7 @@ fn literal_at(alloc: Global, names: &Names, n: u32) -> Result<Literal, AllocErro
     }
 }
 
-fn add_literal(
-    alloc: Global,
-    old: &Names,
-    names: &mut Names,
-    n: u32,
-) -> Result<Term, NameFault>
+fn add_literal(alloc: Global, old: &Names, names: &mut Names, n: u32) -> Result<Term, NameFault>
     ensures number { IfOk result (λ t. t ≡ spec.renamed old.now names.old (Term.Lit n)) }
     ensures named { OnOk result (names.new ≡ spec.with_name old.now names.old (Term.Lit n)) }
     ensures within { OnOk result (name_count names.new ≤ 262144) }
@@ -109,12 +102,7 @@ fn add_iri(names: &mut Names, iri: &str) -> Result<Term, NameFault>
 }
 
 // The name of a term is added to other names; the answer is the term by these.
-fn add_term(
-    alloc: Global,
-    old: &Names,
-    names: &mut Names,
-    term: Term,
-) -> Result<Term, NameFault>
+fn add_term(alloc: Global, old: &Names, names: &mut Names, term: Term) -> Result<Term, NameFault>
     requires { name_count names.old ≤ 262144 }
     ensures number { IfOk result (λ t. t ≡ spec.renamed old.now names.old term) }
     ensures named { OnOk result (names.new ≡ spec.with_name old.now names.old term) }

@@ -5,7 +5,6 @@ ghost use Rattle.crm_legacy.specs.Legacies.{direction_iri};
 ghost use Rattle.crm_legacy.specs.Modern as spec;
 
 pub use crate::gathering::ModernFault;
-
 use crate::gathering::{add_statement, predicate_iri};
 use crate::legacy::{Direction, Legacy, replacements};
 use crate::names::{direction_iri, legacy_of};
@@ -59,7 +58,14 @@ fn add_legacy(
     ensures err { IfErr result (IsCause (spec.with_statements old.now (spec.said_legacy triple legacy) modern.old)) }
 {
     let directions = replacements(alloc, legacy.property)?;
-    add_directions(alloc, old, modern, triple, legacy.inverse, directions.as_slice())
+    add_directions(
+        alloc,
+        old,
+        modern,
+        triple,
+        legacy.inverse,
+        directions.as_slice(),
+    )
 }
 
 /// The records in today's properties: each triple of P114 to P120 is replaced where it stands by triples with the same
