@@ -1,6 +1,6 @@
 // The relations of two periods, each with a placing that has it.
-ghost use Rattle.std.specs.Prelude.{◌≡◌, ◌<◌, ◌≤◌, length};
-ghost use Rattle.std.specs.List.{Contains};
+ghost use Rattle.std.specs.Prelude.{◌≡◌, ◌<◌, ◌≤◌, length, true};
+ghost use Rattle.crm_allen.specs.Names.{is_among};
 ghost use Rattle.order_laws.specs.Chains.{HasCycle};
 ghost use Rattle.crm_outside.specs.Printing.{Prints};
 ghost use Rattle.order_analysis.specs.Subjects.{cycle_of};
@@ -65,7 +65,7 @@ fn print_if_possible<W: Sink>(
     requires few { length analysis.now.set.list ≤ 65536 }
     requires left { pair.left < analysis.now.set.extents }
     requires right { pair.right < analysis.now.set.extents }
-    requires possible { (q : Allen) → Contains relations.now q → IsPossible analysis.now.set pair.left pair.right q }
+    requires possible { (q : Allen) → is_among relations.now q ≡ true → IsPossible analysis.now.set pair.left pair.right q }
     ensures { Prints W.written W.faults W.sure out.old out.new (text_if relations.now (example_text analysis.now.set pair.left pair.right) r) result }
 {
     if relations.has(r) {

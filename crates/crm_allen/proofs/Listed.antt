@@ -99,3 +99,7 @@ filter_same p q e (x ∷ xs) = rw (e x, filter_same p q e xs) refl
 
 pub filtered_itself : (p : Allen → Bool) → filter (is_among (filter p all_relations)) all_relations ≡ filter p all_relations
 filtered_itself p = filter_same (is_among (filter p all_relations)) p (among_filtered p) all_relations
+
+-- whether a relation is among those that pass a test
+pub listed_among : (p : Allen → Bool) (r : Allen) → is_among (filter p all_relations) r ≡ true → Contains (filter p all_relations) r
+listed_among p r h = (listed p r).0 (sym (among_filtered p r) ∙ h)

@@ -268,9 +268,9 @@ module _ (extents : ℕ) (dates : List ℤ) (orders : List Order) (good : IsAcyc
 
   overlap : (a b : ℕ) → a < extents → b < extents → may_overlap orders a b ≡ true → IsConsistent (orders ++ overlaps_orders a b) dates extents
   overlap a b in_a in_b h =
-      let t : (may_be_before orders (Start b) (End a) && may_be_before orders (End a) (End b)) ≡ true = and_second (may_be_before orders (Start a) (Start b)) _ h in
-      possible_overlaps a b in_a in_b (and_first _ (may_be_before orders (Start b) (End a) && may_be_before orders (End a) (End b)) h)
-      (and_first _ (may_be_before orders (End a) (End b)) t) (and_second (may_be_before orders (Start b) (End a)) _ t)
+      let t : (may_be_before orders (Start a) (Start b) && may_be_before orders (Start b) (End a)) ≡ true = and_first _ (may_be_before orders (End a) (End b)) h in
+      possible_overlaps a b in_a in_b (and_first _ (may_be_before orders (Start b) (End a)) t) (and_second (may_be_before orders (Start a) (Start b)) _ t)
+      (and_second (may_be_before orders (Start a) (Start b) && may_be_before orders (Start b) (End a)) _ h)
 
   finish : (a b : ℕ) → a < extents → b < extents → may_be_finished orders a b ≡ true → IsConsistent (orders ++ finished_orders a b) dates extents
   finish a b in_a in_b h = possible_finished a b in_a in_b (and_first _ (may_be_at orders (End a) (End b)) h) (and_second (may_be_before orders (Start a) (Start b)) _ h)
@@ -314,8 +314,9 @@ module _ (extents : ℕ) (dates : List ℤ) (orders : List Order) (placing : Lis
 
   overlapping : (a b : ℕ) → IsSatisfied (overlaps_orders a b) dates placing → may_overlap orders a b ≡ true
   overlapping a b h =
-      and_both _ _ (placed_before (Start a) (Start b) (h 0 (omega arith)))
-      (and_both _ _ (placed_before (Start b) (End a) (h 1 (omega arith))) (placed_before (End a) (End b) (h 2 (omega arith))))
+      and_both _ _
+      (and_both _ _ (placed_before (Start a) (Start b) (h 0 (omega arith))) (placed_before (Start b) (End a) (h 1 (omega arith))))
+      (placed_before (End a) (End b) (h 2 (omega arith)))
 
   finishing : (a b : ℕ) → IsSatisfied (finished_orders a b) dates placing → may_be_finished orders a b ≡ true
   finishing a b h = and_both _ _ (placed_before (Start a) (Start b) (h 0 (omega arith))) (placed_at (End a) (End b) (h 1 (omega arith)) (h 2 (omega arith)))

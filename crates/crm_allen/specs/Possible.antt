@@ -18,7 +18,7 @@ abbrev pub may_be_at : List Order → Point → Point → Bool
 may_be_at orders x y = not (is_strict (reach_between orders x y)) && not (is_strict (reach_between orders y x))
 
 abbrev pub may_overlap : List Order → ℕ → ℕ → Bool
-may_overlap orders a b = may_be_before orders (Start a) (Start b) && (may_be_before orders (Start b) (End a) && may_be_before orders (End a) (End b))
+may_overlap orders a b = (may_be_before orders (Start a) (Start b) && may_be_before orders (Start b) (End a)) && may_be_before orders (End a) (End b)
 
 abbrev pub may_be_finished : List Order → ℕ → ℕ → Bool
 may_be_finished orders a b = may_be_before orders (Start a) (Start b) && may_be_at orders (End a) (End b)

@@ -39,76 +39,76 @@ fn not_after(x: Point, y: Point) -> Order
 fn before_orders(alloc: Global, a: u32, b: u32) -> Result<Vec<Order>, AllocError>
     ensures { IfOk result (λ orders. orders.items ≡ spec.before_orders a b) }
 {
-    vec![in alloc; before(Point::End(a), Point::Start(b))]
+    Ok(vec![in alloc; before(Point::End(a), Point::Start(b))]?)
 }
 
 fn meets_orders(alloc: Global, a: u32, b: u32) -> Result<Vec<Order>, AllocError>
     ensures { IfOk result (λ orders. orders.items ≡ spec.meets_orders a b) }
 {
-    vec![in alloc;
+    Ok(vec![in alloc;
         not_after(Point::End(a), Point::Start(b)),
         not_after(Point::Start(b), Point::End(a)),
-    ]
+    ]?)
 }
 
 fn overlaps_orders(alloc: Global, a: u32, b: u32) -> Result<Vec<Order>, AllocError>
     ensures { IfOk result (λ orders. orders.items ≡ spec.overlaps_orders a b) }
 {
-    vec![in alloc;
+    Ok(vec![in alloc;
         before(Point::Start(a), Point::Start(b)),
         before(Point::Start(b), Point::End(a)),
         before(Point::End(a), Point::End(b)),
-    ]
+    ]?)
 }
 
 fn finished_orders(alloc: Global, a: u32, b: u32) -> Result<Vec<Order>, AllocError>
     ensures { IfOk result (λ orders. orders.items ≡ spec.finished_orders a b) }
 {
-    vec![in alloc;
+    Ok(vec![in alloc;
         before(Point::Start(a), Point::Start(b)),
         not_after(Point::End(a), Point::End(b)),
         not_after(Point::End(b), Point::End(a)),
-    ]
+    ]?)
 }
 
 fn contains_orders(alloc: Global, a: u32, b: u32) -> Result<Vec<Order>, AllocError>
     ensures { IfOk result (λ orders. orders.items ≡ spec.contains_orders a b) }
 {
-    vec![in alloc;
+    Ok(vec![in alloc;
         before(Point::Start(a), Point::Start(b)),
         before(Point::End(b), Point::End(a)),
-    ]
+    ]?)
 }
 
 fn starts_orders(alloc: Global, a: u32, b: u32) -> Result<Vec<Order>, AllocError>
     ensures { IfOk result (λ orders. orders.items ≡ spec.starts_orders a b) }
 {
-    vec![in alloc;
+    Ok(vec![in alloc;
         not_after(Point::Start(a), Point::Start(b)),
         not_after(Point::Start(b), Point::Start(a)),
         before(Point::End(a), Point::End(b)),
-    ]
+    ]?)
 }
 
 fn equal_orders(alloc: Global, a: u32, b: u32) -> Result<Vec<Order>, AllocError>
     ensures { IfOk result (λ orders. orders.items ≡ spec.equal_orders a b) }
 {
-    vec![in alloc;
+    Ok(vec![in alloc;
         not_after(Point::Start(a), Point::Start(b)),
         not_after(Point::Start(b), Point::Start(a)),
         not_after(Point::End(a), Point::End(b)),
         not_after(Point::End(b), Point::End(a)),
-    ]
+    ]?)
 }
 
 fn started_orders(alloc: Global, a: u32, b: u32) -> Result<Vec<Order>, AllocError>
     ensures { IfOk result (λ orders. orders.items ≡ spec.started_orders a b) }
 {
-    vec![in alloc;
+    Ok(vec![in alloc;
         not_after(Point::Start(a), Point::Start(b)),
         not_after(Point::Start(b), Point::Start(a)),
         before(Point::End(b), Point::End(a)),
-    ]
+    ]?)
 }
 
 /// The orders that give the relation of extent a to extent b; a converse has those of its relation, with a and b

@@ -1,6 +1,6 @@
 // Sets of relations.
-ghost use Rattle.std.specs.Prelude.{◌≡◌, ◌↔◌, true};
-ghost use Rattle.std.specs.List.{Contains, filter};
+ghost use Rattle.std.specs.Prelude.{◌≡◌};
+ghost use Rattle.std.specs.List.{filter};
 ghost use Rattle.crm_allen.specs.Names.{all_relations, is_among};
 
 use crate::Allen;
@@ -41,8 +41,7 @@ impl Model for AllenSet {
 impl AllenSet {
     /// Whether it has the relation.
     pub fn has(&self, r: Allen) -> bool
-        ensures test { result ≡ is_among self.now r }
-        ensures listed { (result ≡ true) ↔ Contains self.now r }
+        ensures { result ≡ is_among self.now r }
     {
         match r {
             Allen::Before => self.before,

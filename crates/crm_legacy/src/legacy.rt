@@ -94,30 +94,31 @@ fn back(primitive: Primitive) -> Direction
 pub fn replacements(alloc: Global, property: LegacyProperty) -> Result<Vec<Direction>, AllocError>
     ensures { IfOk result (λ list. list.items ≡ spec.replacements property) }
 {
-    match property {
+    let list = match property {
         LegacyProperty::P114 => vec![in alloc;
             there(Primitive::P175),
             back(Primitive::P175),
             there(Primitive::P184),
             back(Primitive::P184),
-        ],
+        ]?,
         LegacyProperty::P115 => vec![in alloc;
             back(Primitive::P176),
             there(Primitive::P184),
             back(Primitive::P184),
-        ],
+        ]?,
         LegacyProperty::P116 => vec![in alloc;
             there(Primitive::P175),
             back(Primitive::P175),
             there(Primitive::P185),
-        ],
-        LegacyProperty::P117 => vec![in alloc; back(Primitive::P176), there(Primitive::P185)],
+        ]?,
+        LegacyProperty::P117 => vec![in alloc; back(Primitive::P176), there(Primitive::P185)]?,
         LegacyProperty::P118 => vec![in alloc;
             there(Primitive::P176),
             back(Primitive::P174),
             there(Primitive::P185),
-        ],
-        LegacyProperty::P119 => vec![in alloc; there(Primitive::P182), back(Primitive::P173)],
-        LegacyProperty::P120 => vec![in alloc; there(Primitive::P183)],
-    }
+        ]?,
+        LegacyProperty::P119 => vec![in alloc; there(Primitive::P182), back(Primitive::P173)]?,
+        LegacyProperty::P120 => vec![in alloc; there(Primitive::P183)]?,
+    };
+    Ok(list)
 }
