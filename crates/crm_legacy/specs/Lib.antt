@@ -1,0 +1,4 @@
+pub mod Legacies
+pub mod Modern
+pub mod Causes
+pub mod Meaning
