@@ -1,4 +1,8 @@
 // The parts of the report.
+ghost use Rattle.crm_outside.specs.Printing.{Prints, lines_from};
+ghost use Rattle.conflict_reports.specs.Texts.{tangle_line, suspect_line, tangles_text, suspects_text, outcome_text};
+ghost use Rattle.std.specs.Prelude.{Some};
+
 use crate::lines::{append_suspect, append_tangle};
 use crm_outside::{Items, PrintFault, Sink, print_text};
 use order_conflicts::{Conflicts, Suspect, Tangle};
@@ -10,7 +14,9 @@ fn print_tangle<W: Sink>(
     tangle: &Tangle,
     line: &mut Vec<u8>,
     out: &mut W,
-) -> Result<(), PrintFault> {
+) -> Result<(), PrintFault>
+    ensures { Prints W.written W.faults W.sure out.old out.new (tangle_line k tangle.now) result }
+{
     line.clear();
     let Ok(()) = append_tangle(k, tangle, line) else {
         return Err(PrintFault::Memory);
@@ -19,24 +25,36 @@ fn print_tangle<W: Sink>(
 }
 
 fn print_tangle_lines<W: Sink>(
+    tangles: &[Tangle],
+    line: &mut Vec<u8>,
+    out: &mut W,
+) -> Result<(), PrintFault>
+    ensures { Prints W.written W.faults W.sure out.old out.new (lines_from tangle_line 0 tangles.now) result }
+{
+    for k in 0..tangles.len() {
+        print_tangle(k, &tangles[k], line, out)?;
+    }
+    Ok(())
+}
+
+fn print_tangles<W: Sink>(
     tangles: &Items<Tangle>,
     line: &mut Vec<u8>,
     out: &mut W,
-) -> Result<(), PrintFault> {
-    for k in 0..tangles.len() {
-        let Some(tangle) = tangles.get(k) else {
-            unreachable!()
-        };
-        print_tangle(k, tangle, line, out)?;
-    }
-    Ok(())
+) -> Result<(), PrintFault>
+    ensures { Prints W.written W.faults W.sure out.old out.new (tangles_text tangles.now) result }
+{
+    print_count("tangles", tangles.len() as u64, line, out)?;
+    print_tangle_lines(tangles.as_slice(), line, out)
 }
 
 fn print_suspect<W: Sink>(
     suspect: &Suspect,
     line: &mut Vec<u8>,
     out: &mut W,
-) -> Result<(), PrintFault> {
+) -> Result<(), PrintFault>
+    ensures { Prints W.written W.faults W.sure out.old out.new (suspect_line suspect.now) result }
+{
     line.clear();
     let Ok(()) = append_suspect(suspect, line) else {
         return Err(PrintFault::Memory);
@@ -45,42 +63,52 @@ fn print_suspect<W: Sink>(
 }
 
 fn print_suspect_lines<W: Sink>(
-    suspects: &Items<Suspect>,
+    suspects: &[Suspect],
     line: &mut Vec<u8>,
     out: &mut W,
-) -> Result<(), PrintFault> {
+) -> Result<(), PrintFault>
+    ensures { Prints W.written W.faults W.sure out.old out.new (lines_from (λ _ s. suspect_line s) 0 suspects.now) result }
+{
     for k in 0..suspects.len() {
-        let Some(suspect) = suspects.get(k) else {
-            unreachable!()
-        };
-        print_suspect(suspect, line, out)?;
+        print_suspect(&suspects[k], line, out)?;
     }
     Ok(())
 }
 
-// Prints the tangles, then the suspects.
-fn print_found<W: Sink>(
-    alloc: Global,
-    conflicts: &Conflicts,
+fn print_suspects<W: Sink>(
+    suspects: &Items<Suspect>,
+    line: &mut Vec<u8>,
     out: &mut W,
-) -> Result<(), PrintFault> {
-    let mut line = Vec::new(alloc);
-    print_text(out, b"inconsistent\n")?;
-    print_count("tangles", conflicts.tangles.len() as u64, &mut line, out)?;
-    print_tangle_lines(&conflicts.tangles, &mut line, out)?;
-    print_suspect_lines(&conflicts.suspects, &mut line, out)?;
-    print_count("suspects", conflicts.suspects.len() as u64, &mut line, out)
+) -> Result<(), PrintFault>
+    ensures { Prints W.written W.faults W.sure out.old out.new (suspects_text suspects.now) result }
+{
+    print_suspect_lines(suspects.as_slice(), line, out)?;
+    print_count("suspects", suspects.len() as u64, line, out)
 }
 
-/// Prints `consistent` where there is no tangle, else the tangles and the suspects.
-pub(crate) fn print_conflicts<W: Sink>(
+fn print_conflicts<W: Sink>(
     alloc: Global,
     conflicts: &Conflicts,
     out: &mut W,
-) -> Result<(), PrintFault> {
-    if conflicts.tangles.is_empty() {
-        print_text(out, b"consistent\n")
-    } else {
-        print_found(alloc, conflicts, out)
+) -> Result<(), PrintFault>
+    ensures { Prints W.written W.faults W.sure out.old out.new (outcome_text (Some conflicts.now)) result }
+{
+    let mut line = Vec::new(alloc);
+    print_text(out, b"inconsistent\n")?;
+    print_tangles(&conflicts.tangles, &mut line, out)?;
+    print_suspects(&conflicts.suspects, &mut line, out)
+}
+
+/// Prints `consistent`, or the tangles and the suspects.
+pub(crate) fn print_outcome<W: Sink>(
+    alloc: Global,
+    outcome: &Option<Conflicts>,
+    out: &mut W,
+) -> Result<(), PrintFault>
+    ensures { Prints W.written W.faults W.sure out.old out.new (outcome_text outcome.now) result }
+{
+    match outcome {
+        Some(conflicts) => print_conflicts(alloc, conflicts, out),
+        None => print_text(out, b"consistent\n"),
     }
 }

@@ -1,18 +1,33 @@
 // The report of contradictions.
-use crate::printing::print_conflicts;
+ghost use Rattle.std.specs.Prelude.{◌≡◌, IfOk};
+ghost use Rattle.order_conflicts.specs.Conflicts.{conflicts_in};
+ghost use Rattle.report_base.specs.Reports.{IsEnding, Writes, findings_from};
+ghost use Rattle.conflict_reports.specs.Texts.{conflicts_report, outcome_status, told_report};
+
+use crate::printing::print_outcome;
 use boundary_orders::Dossier;
 use crm_outside::Sink;
+use dossier_analysis::analyse;
 use order_conflicts::{Conflicts, find_conflicts};
 use rdf_terms::Records;
 use report_base::{ReportFault, Status, print_dossier, take_survey, tell_passed};
-use std::alloc::Global;
+use std::alloc::{AllocError, Global};
 
-fn status_of(conflicts: &Conflicts) -> Status {
-    if conflicts.tangles.is_empty() {
-        Status::Done
-    } else {
-        Status::Findings
+fn status_of(outcome: &Option<Conflicts>) -> Status
+    ensures status { result ≡ outcome_status outcome.now }
+    ensures ending { IsEnding result }
+{
+    match outcome {
+        Some(_) => Status::Findings,
+        None => Status::Done,
     }
+}
+
+fn conflicts_of(alloc: Global, dossier: &Dossier) -> Result<Option<Conflicts>, AllocError>
+    ensures { IfOk result (λ o. o ≡ conflicts_in dossier.now.orders) }
+{
+    let analysis = analyse(alloc, dossier)?;
+    find_conflicts(&analysis)
 }
 
 fn tell_conflicts<W: Sink>(
@@ -20,11 +35,14 @@ fn tell_conflicts<W: Sink>(
     records: &Records,
     dossier: &Dossier,
     out: &mut W,
-) -> Result<Status, ReportFault> {
-    let conflicts = find_conflicts(alloc, dossier.orders())?;
+) -> Result<Status, ReportFault>
+    requires { dossier.now ≡ findings_from records.now }
+    ensures { Writes W.written W.faults W.sure out.old out.new (told_report records.now) result }
+{
+    let outcome = conflicts_of(alloc, dossier)?;
     print_dossier(alloc, &records.names, dossier, out)?;
-    print_conflicts(alloc, &conflicts, out)?;
-    Ok(status_of(&conflicts))
+    print_outcome(alloc, &outcome, out)?;
+    Ok(status_of(&outcome))
 }
 
 /// Prints the extents, the dates and the orders, and then `consistent`, or each tangle with its first cycle and the
@@ -35,7 +53,9 @@ pub fn report_conflicts<W: Sink>(
     alloc: Global,
     records: &Records,
     out: &mut W,
-) -> Result<Status, ReportFault> {
+) -> Result<Status, ReportFault>
+    ensures { Writes W.written W.faults W.sure out.old out.new (conflicts_report records.now) result }
+{
     match take_survey(alloc, records) {
         Ok(survey) => tell_conflicts(alloc, records, &survey.dossier, out),
         Err(fault) => tell_passed(alloc, fault, out),

@@ -1,11 +1,13 @@
 // All that contradicts itself in a set of orders.
-use crate::strong::components;
-use crate::suspects::{Suspect, suspects_on};
-use crate::tangles::{Tangle, least_points, tangle_of};
+ghost use Rattle.std.specs.Prelude.{◌≡◌, IfOk};
+ghost use Rattle.order_conflicts.specs.Conflicts.{conflicts_in};
+
+use crate::suspects::{Suspect, find_suspects};
+use crate::tangles::{Tangle, find_tangles};
 use crm_outside::Items;
-use order_closure::Edges;
-use order_core::OrderSet;
-use std::alloc::{AllocError, Global};
+use order_analysis::Analysis;
+use order_laws::laws::computed_cycle_is_first;
+use std::alloc::AllocError;
 
 /// The tangles of a set of orders, in the order of their least points, and the suspects, by triple.
 #[derive(Drop)]
@@ -14,35 +16,15 @@ pub struct Conflicts {
     pub suspects: Items<Suspect>,
 }
 
-fn find_tangles(
-    alloc: Global,
-    set: &OrderSet,
-    edges: &Edges,
-) -> Result<Items<Tangle>, AllocError> {
-    let component = components(alloc, set, edges, None)?;
-    let mut tangles = Items::new(alloc);
-    for point in least_points(alloc, set, component.as_slice())? {
-        tangles.push(tangle_of(alloc, set, edges, component.as_slice(), point)?)?;
-    }
-    Ok(tangles)
-}
-
-fn find_suspects(
-    alloc: Global,
-    set: &OrderSet,
-    edges: &Edges,
-    tangles: &Items<Tangle>,
-) -> Result<Items<Suspect>, AllocError> {
-    match tangles.get(0) {
-        Some(tangle) => Ok(Items::from_vec(suspects_on(alloc, set, edges, &tangle.cycle)?)),
-        None => Ok(Items::new(alloc)),
-    }
-}
-
-/// Finds the tangles and the suspects of a set of orders. There are none exactly where the orders are consistent.
-pub fn find_conflicts(alloc: Global, set: &OrderSet) -> Result<Conflicts, AllocError> {
-    let edges = Edges::build(alloc, set)?;
-    let tangles = find_tangles(alloc, set, &edges)?;
-    let suspects = find_suspects(alloc, set, &edges, &tangles)?;
-    Ok(Conflicts { tangles, suspects })
+/// Finds the tangles and the suspects of a set of orders; None where the orders are consistent.
+pub fn find_conflicts(analysis: &Analysis) -> Result<Option<Conflicts>, AllocError>
+    ensures { IfOk result (λ o. o ≡ conflicts_in analysis.now.set) }
+{
+    computed_cycle_is_first();
+    let Some(cycle) = analysis.cycle() else {
+        return Ok(None);
+    };
+    let tangles = find_tangles(analysis)?;
+    let suspects = find_suspects(analysis, cycle)?;
+    Ok(Some(Conflicts { tangles, suspects }))
 }

@@ -1,39 +1,58 @@
-// The first cycle of a tangle.
-use chain_certificate::{Chain, Routes};
-use order_closure::Edges;
-use order_core::OrderSet;
+// The first cycle of all from some points.
+ghost use Rattle.std.specs.Prelude.{◌≡◌, ◌<◌, ℕ, length, slice_index_or, true, IfOk, Some, option_map};
+ghost use Rattle.std.specs.List.{All};
+ghost use Rattle.order_laws.specs.ChainSearch.{first_chain};
+ghost use Rattle.order_laws.specs.Tables.{IsPoint};
+ghost use Rattle.order_conflicts.specs.Cycles.{earlier, earliest};
+ghost use Rattle.order_conflicts.specs.Cycles as spec;
+
+use chain_certificate::Chain;
+use order_analysis::Analysis;
 use order_laws::Point;
-use std::alloc::{AllocError, Global};
+use std::alloc::AllocError;
 
-// Whether a cycle comes before another of another point: it has fewer orders, or as many and a lesser first one.
-fn is_before(one: &[u32], other: &[u32]) -> bool {
-    one.len() < other.len() || one.len() == other.len() && one.first() < other.first()
+// Whether a chain comes before another that begins with another order.
+fn is_before(one: &[u32], other: &[u32]) -> bool
+    requires one { 0 < length one.now }
+    requires other { 0 < length other.now }
+    ensures { result ≡ spec.is_before one.now other.now }
+{
+    one.len() < other.len() || one.len() == other.len() && one[0] < other[0]
 }
 
-/// The first cycle of a point.
-fn cycle_at(
-    alloc: Global,
-    set: &OrderSet,
-    edges: &Edges,
-    point: Point,
-) -> Result<Option<Chain>, AllocError> {
-    Routes::build_uncounted(alloc, set, edges, point)?.chain(alloc, point, true)
+// The first cycle of a point.
+fn cycle_at(analysis: &Analysis, point: Point) -> Result<Option<Chain>, AllocError>
+    requires { IsPoint analysis.now.set.extents (length analysis.now.set.dates) point }
+    ensures { IfOk result (λ o. o ≡ first_chain analysis.now.set.list point point true) }
+{
+    analysis.routes(point)?.chain(analysis.alloc(), point, true)
 }
 
-/// The first cycle of all from the points; empty where none of them has one.
-pub fn first_cycle(
-    alloc: Global,
-    set: &OrderSet,
-    edges: &Edges,
-    points: &[Point],
-) -> Result<Chain, AllocError> {
-    let mut first = Chain::new(alloc);
-    for point in points {
-        if let Some(cycle) = cycle_at(alloc, set, edges, *point)? {
-            if first.is_empty() || is_before(cycle.as_slice(), first.as_slice()) {
-                first = cycle;
+// The one that comes before the other.
+fn earlier(one: Option<Chain>, other: Option<Chain>) -> Option<Chain>
+    ensures { result ≡ spec.earlier one other }
+{
+    match (one, other) {
+        (Some(one), Some(other)) => {
+            if is_before(other.as_slice(), one.as_slice()) {
+                Some(other)
+            } else {
+                Some(one)
             }
         }
+        (None, other) => other,
+        (one, None) => one,
+    }
+}
+
+/// The first cycle of all from the points; None where none of them has one.
+pub fn first_cycle(analysis: &Analysis, points: &[Point]) -> Result<Option<Chain>, AllocError>
+    requires { All (IsPoint analysis.now.set.extents (length analysis.now.set.dates)) points.now }
+    ensures { IfOk result (λ o. o ≡ earliest analysis.now.set.list None points.now) }
+{
+    let mut first = None;
+    for point in points {
+        first = earlier(first, cycle_at(analysis, *point)?);
     }
     Ok(first)
 }

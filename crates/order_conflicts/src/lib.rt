@@ -3,10 +3,14 @@
 
 mod conflicts;
 mod cycles;
-mod strong;
+pub mod laws;
+mod layers;
+mod leading;
+mod points;
 mod suspects;
 mod tangles;
-mod walk;
+mod walking;
+mod without;
 
 pub use conflicts::{Conflicts, find_conflicts};
 pub use suspects::Suspect;

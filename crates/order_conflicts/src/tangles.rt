@@ -1,106 +1,161 @@
-// Tangles: components in which an order is strict.
-use crate::cycles::first_cycle;
-use crate::strong::is_inside;
-use chain_certificate::Chain;
-use crm_outside::Numbers;
-use order_closure::{Edges, number, point_at};
-use order_core::OrderSet;
-use order_laws::Point;
-use std::alloc::{AllocError, Global};
+// Tangles.
+ghost use Rattle.std.specs.Prelude.{◌≡◌, ◌&&◌, ◌^◌, ◌<◌, length, map, not, IfOk};
+ghost use Rattle.std.specs.List.{All, filter, list_any};
+ghost use Rattle.order_laws.specs.Closure.{reach_between};
+ghost use Rattle.order_laws.specs.Tables.{IsPoint, all_points, is_strict};
+ghost use Rattle.order_core.specs.Sets.{AreInRange};
+ghost use Rattle.order_conflicts.specs.Cycles.{cycle_from};
+ghost use Rattle.order_conflicts.specs.Numbers.{numbers_where};
+ghost use Rattle.order_conflicts.specs.Tangles.{is_least, is_tied_in, least_points, tied_points, tangle_at, tangles_in};
+ghost use Rattle.order_conflicts.specs.Tangles as spec;
 
-/// Orders that contradict themselves by number, ascending, and their first cycle.
+use crate::cycles::first_cycle;
+use crate::points::list_points;
+use chain_certificate::Chain;
+use crm_outside::{Items, Numbers};
+use order_analysis::Analysis;
+use order_laws::{Order, Point, Reach};
+use std::alloc::AllocError;
+
+/// Orders that contradict each other, by number, ascending, and the first cycle of all along them.
 #[derive(Drop)]
 pub struct Tangle {
     pub orders: Numbers,
     pub cycle: Chain,
 }
 
-// Whether each component has a strict order.
-fn strict_components(
-    alloc: Global,
-    set: &OrderSet,
-    component: &[u32],
-) -> Result<Vec<bool>, AllocError> {
-    let extents = set.extents();
-    let dates = set.dates().len() as u32;
-    let mut strict = vec![in alloc; false; component.len()]?;
-    for order in set.orders().as_slice() {
-        if order.strict && is_inside(set, component, *order) {
-            let low = number(extents, dates, order.low);
-            strict[component[low as usize] as usize] = true;
-        }
+fn is_known(reach: Reach) -> bool
+    ensures { result ≡ Rattle.order_laws.specs.Tables.is_known reach }
+{
+    match reach {
+        Reach::None => false,
+        Reach::Le => true,
+        Reach::Lt => true,
     }
-    Ok(strict)
 }
 
-/// The least point of each tangle, ascending, by number.
-pub fn least_points(
-    alloc: Global,
-    set: &OrderSet,
-    component: &[u32],
-) -> Result<Vec<u32>, AllocError> {
-    let mut strict = strict_components(alloc, set, component)?;
-    let mut least = Vec::new(alloc);
-    for point in 0..component.len() {
-        let place = component[point] as usize;
-        if strict[place] {
-            strict[place] = false;
-            least.push(point as u32)?;
+fn is_looped(analysis: &Analysis, x: Point) -> bool
+    requires { IsPoint analysis.now.set.extents (length analysis.now.set.dates) x }
+    ensures { result ≡ is_strict (reach_between analysis.now.set.list x x) }
+{
+    match analysis.between(x, x) {
+        Reach::None => false,
+        Reach::Le => false,
+        Reach::Lt => true,
+    }
+}
+
+fn are_tied(analysis: &Analysis, x: Point, y: Point) -> bool
+    requires x { IsPoint analysis.now.set.extents (length analysis.now.set.dates) x }
+    requires y { IsPoint analysis.now.set.extents (length analysis.now.set.dates) y }
+    ensures { result ≡ spec.are_tied analysis.now.set.list x y }
+{
+    is_known(analysis.between(x, y)) && is_known(analysis.between(y, x))
+}
+
+fn has_tied(analysis: &Analysis, x: Point, points: &[Point]) -> bool
+    requires x { IsPoint analysis.now.set.extents (length analysis.now.set.dates) x }
+    requires points { All (IsPoint analysis.now.set.extents (length analysis.now.set.dates)) points.now }
+    ensures { result ≡ list_any (spec.are_tied analysis.now.set.list x) points.now }
+{
+    for y in points {
+        if are_tied(analysis, x, *y) {
+            return true;
+        }
+    }
+    false
+}
+
+fn least_points(analysis: &Analysis, points: &[Point]) -> Result<Vec<Point>, AllocError>
+    requires { points.now ≡ all_points analysis.now.set.extents (length analysis.now.set.dates) }
+    ensures { IfOk result (λ v. v.items ≡ least_points analysis.now.set) }
+{
+    let mut least = Vec::new(analysis.alloc());
+    for k in 0..points.len() {
+        let x = points[k];
+        if is_looped(analysis, x) && !has_tied(analysis, x, &points[..k]) {
+            least.push(x)?;
         }
     }
     Ok(least)
 }
 
-// The points of a component, ascending.
-fn points_of(
-    alloc: Global,
-    set: &OrderSet,
-    component: &[u32],
-    place: u32,
-) -> Result<Vec<Point>, AllocError> {
-    let extents = set.extents();
-    let dates = set.dates().len() as u32;
-    let mut points = Vec::new(alloc);
-    for point in 0..component.len() {
-        if component[point] == place {
-            points.push(point_at(extents, dates, point as u32))?;
+fn tied_points(analysis: &Analysis, x: Point, points: &[Point]) -> Result<Vec<Point>, AllocError>
+    requires x { IsPoint analysis.now.set.extents (length analysis.now.set.dates) x }
+    requires points { points.now ≡ all_points analysis.now.set.extents (length analysis.now.set.dates) }
+    ensures { IfOk result (λ v. v.items ≡ tied_points analysis.now.set x) }
+{
+    let mut tied = Vec::new(analysis.alloc());
+    for y in points {
+        if are_tied(analysis, x, *y) {
+            tied.push(*y)?;
         }
     }
-    Ok(points)
+    Ok(tied)
 }
 
-// The numbers of the orders with both ends in a component, ascending.
-fn orders_of(
-    alloc: Global,
-    set: &OrderSet,
-    component: &[u32],
-    place: u32,
-) -> Result<Numbers, AllocError> {
-    let extents = set.extents();
-    let dates = set.dates().len() as u32;
-    let orders = set.orders().as_slice();
-    let mut numbers = Numbers::new(alloc);
+fn is_tied_in(analysis: &Analysis, x: Point, order: Order) -> bool
+    requires x { IsPoint analysis.now.set.extents (length analysis.now.set.dates) x }
+    requires low { IsPoint analysis.now.set.extents (length analysis.now.set.dates) order.low }
+    requires high { IsPoint analysis.now.set.extents (length analysis.now.set.dates) order.high }
+    ensures { result ≡ is_tied_in analysis.now.set.list x order }
+{
+    are_tied(analysis, x, order.low) && are_tied(analysis, x, order.high)
+}
+
+fn tied_orders(analysis: &Analysis, x: Point) -> Result<Numbers, AllocError>
+    requires { IsPoint analysis.now.set.extents (length analysis.now.set.dates) x }
+    ensures { IfOk result (λ v. v ≡ numbers_where (is_tied_in analysis.now.set.list x) analysis.now.set.list) }
+{
+    analysis.set().conditions();
+    let orders = analysis.set().orders().as_slice();
+    let mut tied = Numbers::new(analysis.alloc());
     for n in 0..orders.len() {
-        let low = number(extents, dates, orders[n].low);
-        if component[low as usize] == place && is_inside(set, component, orders[n]) {
-            numbers.push(n as u32)?;
+        if is_tied_in(analysis, x, orders[n]) {
+            tied.push(n as u32)?;
         }
     }
-    Ok(numbers)
+    Ok(tied)
 }
 
-/// The tangle of a point.
-pub fn tangle_of(
-    alloc: Global,
-    set: &OrderSet,
-    edges: &Edges,
-    component: &[u32],
-    point: u32,
-) -> Result<Tangle, AllocError> {
-    let place = component[point as usize];
-    let points = points_of(alloc, set, component, place)?;
-    Ok(Tangle {
-        orders: orders_of(alloc, set, component, place)?,
-        cycle: first_cycle(alloc, set, edges, points.as_slice())?,
-    })
+fn tied_cycle(analysis: &Analysis, x: Point, points: &[Point]) -> Result<Chain, AllocError>
+    requires x { IsPoint analysis.now.set.extents (length analysis.now.set.dates) x }
+    requires points { points.now ≡ all_points analysis.now.set.extents (length analysis.now.set.dates) }
+    ensures { IfOk result (λ c. c ≡ cycle_from analysis.now.set.list (tied_points analysis.now.set x)) }
+{
+    let tied = tied_points(analysis, x, points)?;
+    match first_cycle(analysis, tied.as_slice())? {
+        Some(cycle) => Ok(cycle),
+        None => Ok(Chain::new(analysis.alloc())),
+    }
+}
+
+// The tangle of a point.
+fn tangle_at(analysis: &Analysis, x: Point, points: &[Point]) -> Result<Tangle, AllocError>
+    requires x { IsPoint analysis.now.set.extents (length analysis.now.set.dates) x }
+    requires points { points.now ≡ all_points analysis.now.set.extents (length analysis.now.set.dates) }
+    ensures { IfOk result (λ t. t ≡ tangle_at analysis.now.set x) }
+{
+    let orders = tied_orders(analysis, x)?;
+    let cycle = tied_cycle(analysis, x, points)?;
+    Ok(Tangle { orders, cycle })
+}
+
+/// The tangles, in the order of their least points.
+pub fn find_tangles(analysis: &Analysis) -> Result<Items<Tangle>, AllocError>
+    ensures { IfOk result (λ ts. ts ≡ tangles_in analysis.now.set) }
+{
+    analysis.set().conditions();
+    let alloc = analysis.alloc();
+    let points = list_points(
+        alloc,
+        analysis.set().extents(),
+        analysis.set().dates().len() as u32,
+    )?;
+    let least = least_points(analysis, points.as_slice())?;
+    let mut tangles = Items::new(alloc);
+    for x in least.as_slice() {
+        tangles.push(tangle_at(analysis, *x, points.as_slice())?)?;
+    }
+    Ok(tangles)
 }

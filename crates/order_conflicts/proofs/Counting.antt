@@ -1,0 +1,13 @@
+-- Numbers that pass a test, one more at a time.
+use Rattle.std.proofs.Common.{zero, suc, ◌≡◌, ℕ, List, [], ◌∷◌, ◌++◌, ◌+◌, ap, arith, ◌∙◌, Bool, cond}
+use Rattle.std.specs.List.{filter, range_with_len}
+use Rattle.std.proofs.lemmas.List.Elements.{filter-append}
+
+range_more : (n a : ℕ) → range_with_len a (n + 1) ≡ range_with_len a n ++ (a + n) ∷ []
+range_more zero a = let e : a ≡ a + 0 = omega arith in ap (λ x. x ∷ []) e
+range_more (suc n) a =
+    let e : a + 1 + n ≡ a + suc n = omega arith in
+    ap (λ l. a ∷ l) (range_more n (a + 1) ∙ ap (λ x. range_with_len (a + 1) n ++ x ∷ []) e)
+
+pub passing_more : (p : ℕ → Bool) (n : ℕ) → filter p (range_with_len 0 (n + 1)) ≡ filter p (range_with_len 0 n) ++ cond (p n) (n ∷ []) []
+passing_more p n = ap (filter p) (range_more n 0) ∙ filter-append p (range_with_len 0 n) (n ∷ [])

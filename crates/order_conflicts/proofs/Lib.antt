@@ -1,0 +1,9 @@
+pub mod Ranges
+pub mod Counting
+pub mod Kept
+pub mod Returns
+pub mod Searching
+pub mod Avoiding
+pub mod Placed
+pub mod Members
+pub mod Tied
