@@ -23,11 +23,11 @@ not_false : (b : Bool) → b ≡ false → not b ≡ true
 not_false b e = ap not e
 
 -- an order that is kept, by its number among all
-record Among (t : ℕ) (orders : List Order) (order : Order) : Type 0 where
-  number : ℕ
-  below : number < length orders
-  same : order_at orders number ≡ order
-  kept : is_made_by t (order_at orders number) ≡ false
+pub record Among (t : ℕ) (orders : List Order) (order : Order) : Type 0 where
+  pub number : ℕ
+  pub below : number < length orders
+  pub same : order_at orders number ≡ order
+  pub kept : is_made_by t (order_at orders number) ≡ false
 
 later : (t : ℕ) (o : Order) (orders : List Order) (order : Order) → Among t orders order → Among t (o ∷ orders) order
 later t o orders order a = record { number = suc a.number; below = omega (arith, a.below); same = a.same; kept = a.kept }
@@ -35,14 +35,14 @@ later t o orders order a = record { number = suc a.number; below = omega (arith,
 kept_first : (t : ℕ) (o : Order) (orders : List Order) → not (is_made_by t o) ≡ true →
     ((k : ℕ) → k < length (without t orders) → Among t orders (order_at (without t orders) k)) →
     (k : ℕ) → k < length (o ∷ without t orders) → Among t (o ∷ orders) (order_at (o ∷ without t orders) k)
-kept_first t o orders yes rest zero h = record { number = 0; below = omega arith; same = refl; kept = not_true (is_made_by t o) yes }
-kept_first t o orders yes rest (suc k) h = later t o orders (order_at (without t orders) k) (rest k (omega arith))
+kept_first t o orders holds rest zero h = record { number = 0; below = omega arith; same = refl; kept = not_true (is_made_by t o) holds }
+kept_first t o orders holds rest (suc k) h = later t o orders (order_at (without t orders) k) (rest k (omega arith))
 
-kept_from : (t : ℕ) (orders : List Order) (k : ℕ) → k < length (without t orders) → Among t orders (order_at (without t orders) k)
+pub kept_from : (t : ℕ) (orders : List Order) (k : ℕ) → k < length (without t orders) → Among t orders (order_at (without t orders) k)
 kept_from t [] k h = absurd (omega arith)
 kept_from t (o ∷ orders) k h =
     elim (cases_Bool (not (is_made_by t o))) [
-      | inl yes ↦ rw yes (kept_first t o orders yes (kept_from t orders) k (rw yes at h))
+      | inl holds ↦ rw holds (kept_first t o orders holds (kept_from t orders) k (rw holds at h))
       | inr other ↦ rw other (later t o orders (order_at (without t orders) k) (kept_from t orders k (rw other at h)))
     ]
 
@@ -55,12 +55,12 @@ pub record Below (t : ℕ) (orders : List Order) (order : Order) : Type 0 where
 pub kept_to : (t : ℕ) (orders : List Order) (n : ℕ) → n < length orders → is_made_by t (order_at orders n) ≡ false → Below t orders (order_at orders n)
 kept_to t [] n h kept = absurd (omega arith)
 kept_to t (o ∷ orders) zero h kept =
-    let yes : not (is_made_by t o) ≡ true = not_false (is_made_by t o) kept in
-    record { number = 0; below = rw yes (omega arith); same = rw yes refl }
+    let holds : not (is_made_by t o) ≡ true = not_false (is_made_by t o) kept in
+    record { number = 0; below = rw holds (omega arith); same = rw holds refl }
 kept_to t (o ∷ orders) (suc n) h kept =
     let old : Below t orders (order_at orders n) = kept_to t orders n (omega arith) kept in
     elim (cases_Bool (not (is_made_by t o))) [
-      | inl yes ↦ record { number = suc old.number; below = rw yes (omega (arith, old.below)); same = rw yes old.same }
+      | inl holds ↦ record { number = suc old.number; below = rw holds (omega (arith, old.below)); same = rw holds old.same }
       | inr other ↦ record { number = old.number; below = rw other old.below; same = rw other old.same }
     ]
 
@@ -68,9 +68,6 @@ module _ (set : Orders) (t : ℕ) where
   pub path_append : (x y z : ℕ) (ms ns : List ℕ) → IsPath set t x y ms → IsPath set t y z ns → IsPath set t x z (ms ++ ns)
   path_append x y z [] ns v w = let P : ℕ → Type 0 = λ p. IsPath set t p z ns in subst P (sym v) w
   path_append x y z (m ∷ ms) ns v w = (v.0, v.1, path_append (high_of set m) y z ms ns v.2 w)
-
-  kept_number : (k : ℕ) → k < length (without t set.list) → Among t set.list (order_at (without t set.list) k)
-  kept_number k h = kept_from t set.list k h
 
   -- along kept orders
   path_of_walk : (x y : Point) (ns : List ℕ) → IsWalk (without t set.list) x y ns → Leads set t (number_of set.extents x) (number_of set.extents y)
@@ -98,11 +95,11 @@ module _ (set : Orders) (t : ℕ) where
       let low : number_of set.extents x ≡ low_of set a.number = sym (ap (λ (o : Order). number_of set.extents o.low) a.same ∙ ap (number_of set.extents) w.1) in
       let high : number_of set.extents (order_at (without t set.list) k).high ≡ high_of set a.number = sym (ap (λ (o : Order). number_of set.extents o.high) a.same) in
       elim (cases_Bool (order_at (without t set.list) k).strict) [
-        | inl yes ↦
+        | inl holds ↦
             (let P : ℕ → Type 0 = λ p. Leads set t p (number_of set.extents y) in record {
               number = a.number;
               kept = (a.below, a.kept);
-              strict = ap (λ (o : Order). o.strict) a.same ∙ yes;
+              strict = ap (λ (o : Order). o.strict) a.same ∙ holds;
               before = ([], low);
               behind = subst P high (path_of_walk (order_at (without t set.list) k).high y ks w.2);
             })

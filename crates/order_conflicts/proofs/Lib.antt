@@ -7,3 +7,5 @@ pub mod Avoiding
 pub mod Placed
 pub mod Members
 pub mod Tied
+pub mod First
+pub mod Rings

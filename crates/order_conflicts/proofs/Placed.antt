@@ -5,7 +5,9 @@ use Rattle.std.specs.List.{filter}
 use Rattle.std.proofs.lemmas.Bool.{cases_Bool, true≢false}
 use Rattle.std.proofs.lemmas.List.Elements.{filter-append}
 use Rattle.order_laws.specs.declared.Order.{Order}
+use Rattle.order_laws.specs.declared.By.TheVariants.{Extent, Dates}
 use Rattle.order_laws.specs.declared.Point.{Point}
+use Rattle.order_laws.specs.declared.Point.TheVariants.{Start, End, Date}
 use Rattle.order_laws.specs.Chains.{order_at, HasCycle, Follows}
 use Rattle.order_laws.specs.Closure.{has_strict_loop, reach_between}
 use Rattle.order_laws.specs.Placings.{IsConsistent}
@@ -20,13 +22,19 @@ use Rattle.order_conflicts.specs.Suspects.{is_made_by, is_suspect, without}
 use Rattle.order_conflicts.specs.Tangles.{are_tied}
 use Rattle.order_conflicts.proofs.Kept.{Among, kept_from}
 
+abbrev extent_order : ℕ → Order
+extent_order k = record { low = Start k; high = End k; strict = true; by = Extent k }
+
+abbrev date_order : ℕ → Order
+date_order k = record { low = Date k; high = Date (k + 1); strict = true; by = Dates }
+
 keep_extents : (t k : ℕ) → without t (extent_orders k) ≡ extent_orders k
 keep_extents t zero = refl
-keep_extents t (suc k) = filter-append (λ o. not (is_made_by t o)) (extent_orders k) _ ∙ ap (λ os. os ++ _) (keep_extents t k)
+keep_extents t (suc k) = filter-append (λ o. not (is_made_by t o)) (extent_orders k) (extent_order k ∷ []) ∙ ap (λ os. os ++ extent_order k ∷ []) (keep_extents t k)
 
 keep_dates : (t k : ℕ) → without t (date_orders k) ≡ date_orders k
 keep_dates t zero = refl
-keep_dates t (suc k) = filter-append (λ o. not (is_made_by t o)) (date_orders k) _ ∙ ap (λ os. os ++ _) (keep_dates t k)
+keep_dates t (suc k) = filter-append (λ o. not (is_made_by t o)) (date_orders k) (date_order k ∷ []) ∙ ap (λ os. os ++ date_order k ∷ []) (keep_dates t k)
 
 pub without_completed : (t extents dates : ℕ) (statements : List Order) →
     without t (completed extents dates statements) ≡ completed extents dates (without t statements)
@@ -59,7 +67,7 @@ module _ (orders : List Order) (extents : ℕ) (dates : List ℤ) (s : IsOrderSe
 
   pub no_loop_without : (HasCycle orders → ⊥) → has_strict_loop orders extents (length dates) ≡ false
   no_loop_without none = elim (cases_Bool (has_strict_loop orders extents (length dates))) [
-    | inl yes ↦ absurd (none ((cycle_decided orders extents (length dates) s.low_in_range).1 yes))
+    | inl holds ↦ absurd (none ((cycle_decided orders extents (length dates) s.low_in_range).1 holds))
     | inr no_more ↦ no_more
   ]
 

@@ -1,5 +1,5 @@
 -- A search keeps exactly the points that are led to.
-use Rattle.std.proofs.Common.{zero, suc, ◌≡◌, ℕ, List, [], ◌∷◌, ◌++◌, Bool, true, false, cond, ◌+◌, ◌*◌, ◌<◌, ◌≤◌, length, get_or, set, arith, inl, inr, refl, subst, ap, sym, ◌∙◌, length-set, get_or-set_same, get_or-set_other}
+use Rattle.std.proofs.Common.{zero, suc, ◌≡◌, ◌≢◌, ◌-◌, ℕ, List, [], ◌∷◌, ◌++◌, Bool, true, false, cond, ◌+◌, ◌*◌, ◌<◌, ◌≤◌, length, get_or, set, arith, inl, inr, refl, subst, ap, sym, ◌∙◌, length-set, get_or-set_same, get_or-set_other}
 use Rattle.std.specs.Prelude.{sum_by}
 use Rattle.std.proofs.lemmas.Bool.{cases_Bool, cases_eq, cases_lt, true≢false}
 use Rattle.std.proofs.lemmas.List.{get_or_append_left, get_or-append_right, length_push}
@@ -21,6 +21,9 @@ grows_twice a b c g h = record {
   front = λ i l. h.front i (omega (arith, g.longer)) ∙ g.front i l;
   seen = λ p s. h.seen p (g.seen p s);
 }
+
+abbrev unseen : Bool → ℕ
+unseen b = cond b 0 1
 
 module _ (old new : Found) (p : ℕ) (below : p < length old.seen.items) (fresh : is_seen old p ≡ false)
     (seen : new.seen.items ≡ set old.seen.items p true) (reached : new.reached.items ≡ old.reached.items ++ p ∷ []) where
@@ -57,7 +60,7 @@ module _ (old new : Found) (p : ℕ) (below : p < length old.seen.items) (fresh 
       omega (
         arith,
         count,
-        ap (λ (l : List Bool). sum_by (λ b. cond b 0 1) l) seen,
+        ap {B = ℕ} (λ (l : List Bool). sum_by unseen l) seen,
         sum_by-set (λ b. cond b 0 1) old.seen.items p true false below,
         ap (λ (b : Bool). cond b 0 1) fresh,
       )
@@ -87,7 +90,7 @@ module _ (old new : Found) (p : ℕ) (below : p < length old.seen.items) (fresh 
 -- a path goes on along an order
 leads_on : (s : Orders) (t x n : ℕ) → IsKept s t n → Leads s t x (low_of s n) → Leads s t x (high_of s n)
 leads_on s t x n kept l =
-    (l.0 ++ n ∷ [], path_append s t x (low_of s n) (high_of s n) l.0 (n ∷ []) l.1 (kept, (refl, refl)))
+    (l.0 ++ n ∷ [], path_append s t x (low_of s n) (high_of s n) l.0 (n ∷ []) l.1 (kept, refl, refl))
 
 pub taken_grows : (s : Orders) (t p at : ℕ) (a b : Found) → Grows a b → AreTaken s t a p at → AreTaken s t b p at
 taken_grows s t p at a b g taken n l kept low = g.seen (high_of s n) (taken n l kept low)

@@ -34,7 +34,7 @@ any_less : (p q : Point → Bool) (xs : List Point) → ((z : Point) → p z ≡
 any_less p q [] more none = refl
 any_less p q (x ∷ xs) more none =
     elim (cases_Bool (q x)) [
-      | inl yes ↦ absurd (true≢false (rw yes at none))
+      | inl holds ↦ absurd (true≢false (rw holds at none))
       | inr other ↦ elim (cases_Bool (p x)) [
         | inl passes ↦ absurd (true≢false (sym (more x passes) ∙ other))
         | inr fails ↦ rw fails (any_less p q xs more (rw other at none))
@@ -50,17 +50,17 @@ record First (p : Point → Bool) (xs : List Point) (d : Point) : Type 0 where
 
 first_later : (p : Point → Bool) (x : Point) (xs : List Point) (d y : Point) → p x ≡ false → Contains (x ∷ xs) y → p y ≡ true →
     (Contains xs y → First p xs d) → First p (x ∷ xs) d
-first_later p x xs d y other (zero, c) e rest =
-    let P : Point → Type 0 = λ z. p z ≡ true in absurd (true≢false (sym (subst P (sym c.1) e) ∙ other))
-first_later p x xs d y other (suc k, c) e rest =
-    let old : First p xs d = rest (k, (omega (arith, c.0), c.1)) in
+first_later p x xs d y other (zero, h, c) e rest =
+    let P : Point → Type 0 = λ z. p z ≡ true in absurd (true≢false (sym (subst P (sym c) e) ∙ other))
+first_later p x xs d y other (suc k, h, c) e rest =
+    let old : First p xs d = rest (k, omega (arith, h), c) in
     record { place = suc old.place; below = omega (arith, old.below); passes = old.passes; first = rw other old.first }
 
 first_of : (p : Point → Bool) (xs : List Point) (d y : Point) → Contains xs y → p y ≡ true → First p xs d
-first_of p [] d y c e = absurd (omega (arith, c.1.0))
+first_of p [] d y c e = absurd (omega (arith, c.1))
 first_of p (x ∷ xs) d y c e =
     elim (cases_Bool (p x)) [
-      | inl yes ↦ record { place = 0; below = omega arith; passes = yes; first = refl }
+      | inl holds ↦ record { place = 0; below = omega arith; passes = holds; first = refl }
       | inr other ↦ first_later p x xs d y other c e (λ h. first_of p xs d y h e)
     ]
 
@@ -100,16 +100,16 @@ module _ (orders : List Order) where
     before : Reaches orders x (order_at orders n).low false
     behind : Reaches orders (order_at orders n).high y false
 
-  weak : (x y : Point) (ns : List ℕ) → IsWalk orders x y ns → Reaches orders x y false
+  pub weak : (x y : Point) (ns : List ℕ) → IsWalk orders x y ns → Reaches orders x y false
   weak x y ns w = record { path = ns; walk = w; shows = λ e. absurd (true≢false (sym e)) }
 
   on_walk : (x y : Point) (ns : List ℕ) (n : ℕ) → IsWalk orders x y ns → Contains ns n → On x y n
-  on_walk x y [] n w c = absurd (omega (arith, c.1.0))
-  on_walk x y (m ∷ ms) n w (zero, c) =
+  on_walk x y [] n w c = absurd (omega (arith, c.1))
+  on_walk x y (m ∷ ms) n w (zero, h, c) =
       let P : ℕ → Type 0 = λ z. On x y z in
-      subst P c.1 (record { below = w.0; before = weak x (order_at orders m).low [] (sym w.1); behind = weak (order_at orders m).high y ms w.2 })
-  on_walk x y (m ∷ ms) n w (suc k, c) =
-      let rest : On (order_at orders m).high y n = on_walk (order_at orders m).high y ms n w.2 (k, (omega (arith, c.0), c.1)) in
+      subst P c (record { below = w.0; before = weak x (order_at orders m).low [] (sym w.1); behind = weak (order_at orders m).high y ms w.2 })
+  on_walk x y (m ∷ ms) n w (suc k, h, c) =
+      let rest : On (order_at orders m).high y n = on_walk (order_at orders m).high y ms n w.2 (k, omega (arith, h), c) in
       let step : Reaches orders x (order_at orders m).high false = weak x (order_at orders m).high (m ∷ []) (w.0, w.1, refl) in
       record { below = rest.below; before = reaches_join orders x (order_at orders m).high (order_at orders n).low false false step rest.before; behind = rest.behind }
 
@@ -133,20 +133,20 @@ module _ (orders : List Order) where
       let shows : shows_strict orders (n ∷ back.path) ≡ true =
       elim (cases_Bool (order_at orders n).strict) [ inl e ↦ rw e refl | inr e ↦ rw e (back.shows refl) ] in (
         n ∷ back.path,
-        (((order_at orders n).low, ((omega arith, (h, refl, back.walk)), shows)), (0, (omega arith, refl))),
+        (((order_at orders n).low, ((omega arith, (h, refl, back.walk)), shows)), (0, omega arith, refl)),
       )
 
 module _ (set : Orders) (s : IsOrderSet set.list set.extents set.dates) where
-  all : List Point
+  pub all : List Point
   all = all_points set.extents (length set.dates)
 
   -- what makes a point the least of a tangle
-  record Least (x : Point) : Type 0 where
-    in_range : IsPoint set.extents (length set.dates) x
-    loops : Reaches set.list x x true
-    alone : list_any (are_tied set.list x) (take (number_of set.extents x) all) ≡ false
+  pub record Least (x : Point) : Type 0 where
+    pub in_range : IsPoint set.extents (length set.dates) x
+    pub loops : Reaches set.list x x true
+    pub alone : list_any (are_tied set.list x) (take (number_of set.extents x) all) ≡ false
 
-  least_is : (x : Point) → Contains (least_points set) x → Least x
+  pub least_is : (x : Point) → Contains (least_points set) x → Least x
   least_is x c =
       let p : Passes (is_least set) all x = among_passing (is_least set) all x c in
       let each = and_true (is_strict (reach_between set.list x x)) (not (list_any (are_tied set.list x) (take (number_of set.extents x) all))) p.passes in
@@ -188,10 +188,9 @@ module _ (set : Orders) (s : IsOrderSet set.list set.extents set.dates) where
   order_on_cycle x n c d =
       let l : Listed x n = is_listed x n d in cycle_along set.list x n l.below (least_is x c).loops l.low l.high
 
-  point_of_cycle : (ns : List ℕ) → (cycle : IsCycle set.list ns) → IsPoint set.extents (length set.dates) cycle.0
-  point_of_cycle [] cycle = absurd (omega (arith, cycle.1.0.0))
-  point_of_cycle (n ∷ ns) cycle =
-      let P : Point → Type 0 = IsPoint set.extents (length set.dates) in subst P cycle.1.0.1.1 (s.low_in_range n cycle.1.0.1.0)
+  pub point_of_walk : (x y : Point) (ns : List ℕ) → 0 < length ns → IsWalk set.list x y ns → IsPoint set.extents (length set.dates) x
+  point_of_walk x y [] h w = absurd (omega arith)
+  point_of_walk x y (n ∷ ns) h w = let P : Point → Type 0 = IsPoint set.extents (length set.dates) in subst P w.1 (s.low_in_range n w.0)
 
   -- the least point of those that are tied to the point of a cycle
   module _ (y : Point) (in_y : IsPoint set.extents (length set.dates) y) (loop : Reaches set.list y y true) where
@@ -219,7 +218,7 @@ module _ (set : Orders) (s : IsOrderSet set.list set.extents set.dates) where
 
     least_is_least : Contains (least_points set) least
     least_is_least = is_least_of least (record {
-      in_range = among_points set.extents (length set.dates) least (found.place, (found.below, refl));
+      in_range = among_points set.extents (length set.dates) least (found.place, found.below, refl);
       loops = strict_there set.list least y (tied_back set.list y least least_tied) loop;
       alone = least_alone;
     })
@@ -228,16 +227,19 @@ module _ (set : Orders) (s : IsOrderSet set.list set.extents set.dates) where
       (x : Point) × (Contains (least_points set) x × All (λ n. Contains (tangle_at set x).orders n) ns)
   cycle_in_tangle ns cycle =
       let y : Point = cycle.0 in
-      let in_y : IsPoint set.extents (length set.dates) y = point_of_cycle ns cycle in
+      let in_y : IsPoint set.extents (length set.dates) y = point_of_walk y y ns cycle.1.0.0 cycle.1.0.1 in
       let loop : Reaches set.list y y true = record { path = ns; walk = cycle.1.0.1; shows = λ _. cycle.1.1 } in
       let x : Point = least y in_y loop in
       let back : Tied set.list x y = tied_back set.list y x (least_tied y in_y loop) in (
         x,
-        (least_is_least y in_y loop, λ k d h.
-        (let n : ℕ = get_or ns k d in
-        let on : On set.list y y n = on_walk set.list y y ns n cycle.1.0.1 (k, (h, here ns k d n h refl)) in
-        let ends = ends_tied set.list y n on in
-        listed x n on.below (tied_on set.list x y (order_at set.list n).low back ends.0) (tied_on set.list x y (order_at set.list n).high back ends.1))),
+        (
+          least_is_least y in_y loop,
+          λ k d h.
+              (let n : ℕ = get_or ns k d in
+              let on : On set.list y y n = on_walk set.list y y ns n cycle.1.0.1 (k, h, here ns k d n h refl) in
+              let ends = ends_tied set.list y n on in
+              listed x n on.below (tied_on set.list x y (order_at set.list n).low back ends.0) (tied_on set.list x y (order_at set.list n).high back ends.1)),
+        ),
       )
 
   -- a point stands at its number

@@ -11,13 +11,21 @@ use order_analysis::Analysis;
 use order_laws::Point;
 use std::alloc::AllocError;
 
+// The first order of a chain; 0 of none.
+fn head(chain: &[u32]) -> u32
+    ensures { result ≡ slice_index_or chain.now 0 0 }
+{
+    match chain.first() {
+        Some(n) => *n,
+        None => 0,
+    }
+}
+
 // Whether a chain comes before another that begins with another order.
 fn is_before(one: &[u32], other: &[u32]) -> bool
-    requires one { 0 < length one.now }
-    requires other { 0 < length other.now }
     ensures { result ≡ spec.is_before one.now other.now }
 {
-    one.len() < other.len() || one.len() == other.len() && one[0] < other[0]
+    one.len() < other.len() || one.len() == other.len() && head(one) < head(other)
 }
 
 // The first cycle of a point.

@@ -3,7 +3,8 @@ ghost use Rattle.std.specs.Prelude.{◌≡◌, ◌↔◌, ℕ, ℤ, List, None, 
 ghost use Rattle.std.specs.List.{All, Contains};
 ghost use Rattle.order_laws.specs.declared.Order.{Order};
 ghost use Rattle.order_laws.specs.declared.Point.{Point};
-ghost use Rattle.order_laws.specs.Chains.{Follows};
+ghost use Rattle.order_laws.specs.Chains.{Follows, IsChain, shows_strict};
+ghost use Rattle.order_laws.specs.Lists.{IsAtMost};
 ghost use Rattle.order_laws.specs.Placings.{IsConsistent};
 ghost use Rattle.order_laws.specs.Tables.{IsOrderSet};
 ghost use Rattle.order_core.specs.Sets.{Orders, AreAscending, AreInRange, completed};
@@ -52,4 +53,12 @@ pub fn tangles_share_no_order()
     ensures { (set : Orders) (x y : Point) (n : ℕ) → IsOrderSet set.list set.extents set.dates →
         Contains (least_points set) x → Contains (least_points set) y →
         Contains (tangle_at set x).orders n → Contains (tangle_at set y).orders n → x ≡ y }
+{}
+
+/// The cycle of a tangle is one, and the first of all from its points.
+pub fn cycles_of_tangles_are_first()
+    ensures cycle { (set : Orders) (x : Point) → IsOrderSet set.list set.extents set.dates → Contains (least_points set) x →
+        IsCycle set.list (tangle_at set x).cycle }
+    ensures first { (set : Orders) (x y : Point) (ns : List ℕ) → IsOrderSet set.list set.extents set.dates → Contains (least_points set) x →
+        are_tied set.list x y ≡ true → IsChain set.list y y ns → shows_strict set.list ns ≡ true → IsAtMost (tangle_at set x).cycle ns }
 {}

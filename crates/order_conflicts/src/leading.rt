@@ -25,6 +25,7 @@ pub struct Found {
 fn keep(found: &mut Found, point: u32) -> Result<(), AllocError>
     requires { point < length found.old.seen.items }
     ensures grows { OnOk result (Grows found.old found.new) }
+    ensures size { OnOk result (length found.new.seen.items ≡ length found.old.seen.items) }
     ensures seen { OnOk result (is_seen found.new point ≡ true) }
     ensures room { OnOk result (room found.new ≤ room found.old) }
     ensures found { OnOk result ((set : Orders) (t points from : ℕ) → IsFound set t points from found.old → Leads set t from point →

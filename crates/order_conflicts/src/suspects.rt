@@ -68,6 +68,7 @@ fn mark_triples(alloc: Global, orders: &[Order], chain: &[u32]) -> Result<Vec<bo
 }
 
 // A suspect with its orders.
+#[tactic(auto, using(crate::proofs::Counting::passing_more))]
 fn suspect_of(alloc: Global, set: &OrderSet, triple: u32) -> Result<Suspect, AllocError>
     ensures { IfOk result (λ s. s ≡ suspect_of set.now.list triple) }
 {

@@ -1,7 +1,8 @@
 // Tangles.
-ghost use Rattle.std.specs.Prelude.{◌≡◌, ◌&&◌, ◌^◌, ◌<◌, length, map, not, IfOk};
+ghost use Rattle.std.specs.Prelude.{◌≡◌, length, map, take, IfOk};
 ghost use Rattle.std.specs.List.{All, filter, list_any};
 ghost use Rattle.order_laws.specs.Closure.{reach_between};
+ghost use Rattle.order_laws.specs.Points.{number_of};
 ghost use Rattle.order_laws.specs.Tables.{IsPoint, all_points, is_strict};
 ghost use Rattle.order_core.specs.Sets.{AreInRange};
 ghost use Rattle.order_conflicts.specs.Cycles.{cycle_from};
@@ -66,15 +67,25 @@ fn has_tied(analysis: &Analysis, x: Point, points: &[Point]) -> bool
     false
 }
 
+// Whether a point is the least of a tangle, given the points before it.
+fn is_least(analysis: &Analysis, x: Point, before: &[Point]) -> bool
+    requires x { IsPoint analysis.now.set.extents (length analysis.now.set.dates) x }
+    requires before { before.now ≡ take (number_of analysis.now.set.extents x) (all_points analysis.now.set.extents (length analysis.now.set.dates)) }
+    requires within { All (IsPoint analysis.now.set.extents (length analysis.now.set.dates)) before.now }
+    ensures { result ≡ is_least analysis.now.set x }
+{
+    is_looped(analysis, x) && !has_tied(analysis, x, before)
+}
+
 fn least_points(analysis: &Analysis, points: &[Point]) -> Result<Vec<Point>, AllocError>
-    requires { points.now ≡ all_points analysis.now.set.extents (length analysis.now.set.dates) }
+    requires points { points.now ≡ all_points analysis.now.set.extents (length analysis.now.set.dates) }
+    requires within { All (IsPoint analysis.now.set.extents (length analysis.now.set.dates)) points.now }
     ensures { IfOk result (λ v. v.items ≡ least_points analysis.now.set) }
 {
     let mut least = Vec::new(analysis.alloc());
     for k in 0..points.len() {
-        let x = points[k];
-        if is_looped(analysis, x) && !has_tied(analysis, x, &points[..k]) {
-            least.push(x)?;
+        if is_least(analysis, points[k], &points[..k]) {
+            least.push(points[k])?;
         }
     }
     Ok(least)
@@ -83,6 +94,7 @@ fn least_points(analysis: &Analysis, points: &[Point]) -> Result<Vec<Point>, All
 fn tied_points(analysis: &Analysis, x: Point, points: &[Point]) -> Result<Vec<Point>, AllocError>
     requires x { IsPoint analysis.now.set.extents (length analysis.now.set.dates) x }
     requires points { points.now ≡ all_points analysis.now.set.extents (length analysis.now.set.dates) }
+    requires within { All (IsPoint analysis.now.set.extents (length analysis.now.set.dates)) points.now }
     ensures { IfOk result (λ v. v.items ≡ tied_points analysis.now.set x) }
 {
     let mut tied = Vec::new(analysis.alloc());
@@ -103,6 +115,7 @@ fn is_tied_in(analysis: &Analysis, x: Point, order: Order) -> bool
     are_tied(analysis, x, order.low) && are_tied(analysis, x, order.high)
 }
 
+#[tactic(auto, using(crate::proofs::Counting::passing_more))]
 fn tied_orders(analysis: &Analysis, x: Point) -> Result<Numbers, AllocError>
     requires { IsPoint analysis.now.set.extents (length analysis.now.set.dates) x }
     ensures { IfOk result (λ v. v ≡ numbers_where (is_tied_in analysis.now.set.list x) analysis.now.set.list) }
@@ -121,6 +134,7 @@ fn tied_orders(analysis: &Analysis, x: Point) -> Result<Numbers, AllocError>
 fn tied_cycle(analysis: &Analysis, x: Point, points: &[Point]) -> Result<Chain, AllocError>
     requires x { IsPoint analysis.now.set.extents (length analysis.now.set.dates) x }
     requires points { points.now ≡ all_points analysis.now.set.extents (length analysis.now.set.dates) }
+    requires within { All (IsPoint analysis.now.set.extents (length analysis.now.set.dates)) points.now }
     ensures { IfOk result (λ c. c ≡ cycle_from analysis.now.set.list (tied_points analysis.now.set x)) }
 {
     let tied = tied_points(analysis, x, points)?;
@@ -134,6 +148,7 @@ fn tied_cycle(analysis: &Analysis, x: Point, points: &[Point]) -> Result<Chain, 
 fn tangle_at(analysis: &Analysis, x: Point, points: &[Point]) -> Result<Tangle, AllocError>
     requires x { IsPoint analysis.now.set.extents (length analysis.now.set.dates) x }
     requires points { points.now ≡ all_points analysis.now.set.extents (length analysis.now.set.dates) }
+    requires within { All (IsPoint analysis.now.set.extents (length analysis.now.set.dates)) points.now }
     ensures { IfOk result (λ t. t ≡ tangle_at analysis.now.set x) }
 {
     let orders = tied_orders(analysis, x)?;
@@ -141,21 +156,31 @@ fn tangle_at(analysis: &Analysis, x: Point, points: &[Point]) -> Result<Tangle, 
     Ok(Tangle { orders, cycle })
 }
 
+// The tangle of each point.
+fn tangles_at(
+    analysis: &Analysis,
+    least: &[Point],
+    points: &[Point],
+) -> Result<Items<Tangle>, AllocError>
+    requires least { All (IsPoint analysis.now.set.extents (length analysis.now.set.dates)) least.now }
+    requires points { points.now ≡ all_points analysis.now.set.extents (length analysis.now.set.dates) }
+    requires within { All (IsPoint analysis.now.set.extents (length analysis.now.set.dates)) points.now }
+    ensures { IfOk result (λ ts. ts ≡ map (tangle_at analysis.now.set) least.now) }
+{
+    let mut tangles = Items::new(analysis.alloc());
+    for x in least {
+        tangles.push(tangle_at(analysis, *x, points)?)?;
+    }
+    Ok(tangles)
+}
+
 /// The tangles, in the order of their least points.
 pub fn find_tangles(analysis: &Analysis) -> Result<Items<Tangle>, AllocError>
     ensures { IfOk result (λ ts. ts ≡ tangles_in analysis.now.set) }
 {
     analysis.set().conditions();
-    let alloc = analysis.alloc();
-    let points = list_points(
-        alloc,
-        analysis.set().extents(),
-        analysis.set().dates().len() as u32,
-    )?;
+    let dates = analysis.set().dates().len() as u32;
+    let points = list_points(analysis.alloc(), analysis.set().extents(), dates)?;
     let least = least_points(analysis, points.as_slice())?;
-    let mut tangles = Items::new(alloc);
-    for x in least.as_slice() {
-        tangles.push(tangle_at(analysis, *x, points.as_slice())?)?;
-    }
-    Ok(tangles)
+    tangles_at(analysis, least.as_slice(), points.as_slice())
 }
