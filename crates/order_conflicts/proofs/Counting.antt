@@ -1,0 +1,16 @@
+-- Numbers that pass a test, one more at a time.
+use Rattle.std.proofs.Common.{zero, suc, ◌≡◌, ℕ, List, [], ◌∷◌, ◌++◌, ◌+◌, ap, arith, ◌∙◌, Bool, cond}
+use Rattle.std.specs.List.{filter, range_with_len}
+use Rattle.std.proofs.lemmas.List.Elements.{filter-append}
+
+range_more : (n a : ℕ) → range_with_len a (n + 1) ≡ range_with_len a n ++ (a + n) ∷ []
+range_more zero a = let e : a ≡ a + 0 = omega arith in ap (λ x. x ∷ []) e
+range_more (suc n) a =
+    let longer : suc n + 1 ≡ suc (n + 1) = omega arith in
+    let e : a + 1 + n ≡ a + suc n = omega arith in
+    ap (range_with_len a) longer ∙ ap (λ l. a ∷ l) (range_more n (a + 1) ∙ ap (λ x. range_with_len (a + 1) n ++ x ∷ []) e)
+
+pub passing_more : (p : ℕ → Bool) (n : ℕ) → filter p (range_with_len 0 (n + 1)) ≡ filter p (range_with_len 0 n) ++ cond (p n) (n ∷ []) []
+passing_more p n =
+    let e : 0 + n ≡ n = omega arith in
+    ap (filter p) (range_more n 0 ∙ ap (λ k. range_with_len 0 n ++ k ∷ []) e) ∙ filter-append p (range_with_len 0 n) (n ∷ [])

@@ -1,0 +1,11 @@
+pub mod Ranges
+pub mod Counting
+pub mod Kept
+pub mod Returns
+pub mod Searching
+pub mod Avoiding
+pub mod Placed
+pub mod Members
+pub mod Tied
+pub mod First
+pub mod Rings
