@@ -1,5 +1,6 @@
 pub mod Answering
 pub mod Cutting
+pub mod Kept
 pub mod Named
 pub mod Returns
 pub mod Told

@@ -39,6 +39,11 @@ blanks_in (Lit n) = 0
 abbrev pub labels_of : Triple → ℕ
 labels_of t = blanks_in t.s + cond (same_term t.s t.o) 0 (blanks_in t.o)
 
+-- how many blank nodes a line numbers, where its triple got a number
+abbrev pub labels_where : Option ℕ → Triple → ℕ
+labels_where None t = 0
+labels_where (Some n) t = labels_of t
+
 -- the number of the object, where it is a blank node: that of the subject, or the next
 abbrev pub object_number : ℕ → Triple → ℕ
 object_number blanks t = cond (same_term t.s t.o) blanks (blanks + blanks_in t.s)

@@ -25,8 +25,8 @@ fn blanks_in(term: Term) -> u32
     }
 }
 
-/// How many blank nodes a triple has.
-pub(crate) fn labels_of(triple: Triple) -> u32
+// How many blank nodes a triple has.
+fn labels_of(triple: Triple) -> u32
     ensures count { result ≡ spec.labels_of triple }
     ensures few { result ≤ 2 }
 {
@@ -34,6 +34,17 @@ pub(crate) fn labels_of(triple: Triple) -> u32
         blanks_in(triple.s)
     } else {
         blanks_in(triple.s) + blanks_in(triple.o)
+    }
+}
+
+/// How many blank nodes a line numbers, where its triple got a number.
+pub(crate) fn labels_where(number: Option<u32>, triple: Triple) -> u32
+    ensures count { result ≡ spec.labels_where number triple }
+    ensures few { result ≤ 2 }
+{
+    match number {
+        Some(_) => labels_of(triple),
+        None => 0,
     }
 }
 

@@ -10,7 +10,7 @@ ghost use Rattle.crm_session.specs.Words.{Wanted};
 ghost use Rattle.crm_session.specs.Replies as spec;
 ghost use Rattle.crm_session.specs.Replies.{Replies, reply};
 
-use crate::adding::{labels_of, move_triple, place_in};
+use crate::adding::{labels_where, move_triple, place_in};
 use crate::counting::{count_blanks, have_names};
 use crate::lines::read_triples;
 use crate::telling::{tell_held, tell_number, tell_refused};
@@ -210,16 +210,11 @@ impl Session {
             Err(PoolFault::Full) => unreachable!(),
             Err(PoolFault::Memory) => return Err(AllocError),
         };
-        let labels = if number.is_some() {
-            labels_of(triple)
-        } else {
-            0
-        };
         let session = Session {
             alloc,
             names,
             pool,
-            blanks: blanks + labels,
+            blanks: blanks + labels_where(number, triple),
             lines: lines + 1,
         };
         Ok((session, number))
