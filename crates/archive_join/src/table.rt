@@ -97,7 +97,7 @@ impl NameTable {
         blanks: u32,
         joined: &mut Names,
     ) -> Result<Term, NameFault>
-        requires { (file : NameLists) × IsTable file joined.old self.old × IsNamed file named.entry }
+        requires { (file : NameLists) × IsTable file joined.old self.old × IsNamed file named }
         ensures term { IfOk result (λ t. t ≡ term_of joined.old (moved_value blanks (value_of named.entry))) }
         ensures names { OnOk result (joined.new ≡ names_with joined.old (moved_value blanks (value_of named.entry))) }
         ensures table { OnOk result ((file : NameLists) → IsNamed file named.entry → IsTable file joined.old self.old → IsTable file joined.new self.new) }
@@ -122,7 +122,7 @@ impl NameTable {
         blanks: u32,
         joined: &mut Names,
     ) -> Result<(Term, Term, Term), NameFault>
-        requires { (file : NameLists) × IsTable file joined.old self.old × AreNamed file named.entry }
+        requires { (file : NameLists) × IsTable file joined.old self.old × AreNamed file named }
         ensures terms { IfOk result (λ ts. ts ≡ terms_of joined.old (moved blanks 0 (values_of 0 named.entry))) }
         ensures names { OnOk result (joined.new ≡ names_with_three joined.old (moved blanks 0 (values_of 0 named.entry))) }
         ensures table { OnOk result ((file : NameLists) → AreNamed file named.entry → IsTable file joined.old self.old → IsTable file joined.new self.new) }
