@@ -1,5 +1,5 @@
 // The terms that the names of a file have among the joined ones.
-ghost use Rattle.std.specs.Prelude.{◌≡◌, ◌+◌, ◌<◌, ◌≤◌, ◌^◌, ℕ, length, IfOk, OnOk, OnErr, IsErrOf, slice_get, Some, true};
+ghost use Rattle.std.specs.Prelude.{◌≡◌, ◌+◌, ◌<◌, ◌≤◌, ◌^◌, ℕ, length, IfOk, OnOk, OnErr, IsErrOf, slice_get, Some, None, true, replicate};
 ghost use Rattle.rdf_terms.specs.Naming.{NameLists, has_iri, has_literal, with_iri, iri_number, with_literal, literal_number, name_count};
 ghost use Rattle.archive_join.specs.Values.{names_with, names_with_three, term_of, terms_of};
 ghost use Rattle.archive_join.specs.Joining.{moved_value, moved};
@@ -27,6 +27,13 @@ fn copy_literal(alloc: Global, literal: &Literal) -> Result<Literal, AllocError>
     })
 }
 
+// So many names of which none came.
+fn no_terms(alloc: Global, count: usize) -> Result<Vec<Option<Term>>, AllocError>
+    ensures { IfOk result (λ v. v.items ≡ replicate count None) }
+{
+    vec![in alloc; None; count]
+}
+
 impl NameTable {
     /// Of the names of a file, none of which came.
     pub(crate) fn new(alloc: Global, file: &Names) -> Result<NameTable, AllocError>
@@ -34,8 +41,8 @@ impl NameTable {
     {
         let count = file.len() as usize;
         Ok(NameTable {
-            iris: vec![in alloc; None; count]?,
-            literals: vec![in alloc; None; count]?,
+            iris: no_terms(alloc, count)?,
+            literals: no_terms(alloc, count)?,
         })
     }
 

@@ -1,4 +1,4 @@
-use Rattle.std.proofs.Common.{◌≡◌, ◌≤◌, ℕ, length, ◌+◌, arith, ap, subst, sym, ◌∙◌, Err, max}
+use Rattle.std.proofs.Common.{◌≡◌, ◌≤◌, ℕ, length, ◌+◌, arith, ap, subst, sym, ◌∙◌, Err, refl}
 use Rattle.std.specs.Option.{option_map}
 use Rattle.std.proofs.Math.ListN.{drop_of_length-le}
 use Rattle.std.proofs.lemmas.Result.{err_from_is_err_and}
@@ -7,7 +7,7 @@ use Rattle.rdf_terms.specs.declared.terms.Refusal.{Refusal}
 use Rattle.archive_join.specs.declared.faults.JoinFault.{JoinFault}
 use Rattle.archive_join.specs.declared.faults.JoinFault.TheVariants.{Refused}
 use Rattle.archive_join.specs.Values.{value_triple}
-use Rattle.archive_join.specs.Joining.{moved}
+use Rattle.archive_join.specs.Joining.{moved, behind_triple}
 use Rattle.archive_join.specs.Named.{IsPastWith}
 use Rattle.archive_join.proofs.Adding.{IsAdded, added_none, added_one, added_all, refused_next}
 use Rattle.archive_join.proofs.joining.add_records.Goals as goal
@@ -27,9 +27,9 @@ returns-in_err-add_triple-clause-refused c = λ f is.
 
 pub loop-k-preserved : goal.loop-k-preserved
 loop-k-preserved c =
-    subst (λ (n : ℕ). IsAdded c.args.shift.blanks c.args.shift.bytes c.args.file.now c.args.records.now c.add_triple.new.records c.add_triple.new.table (c.loop-k.k + 1) n) (sym c.max-blanks.ensures)
-    (added_one c.args.shift.blanks c.args.shift.bytes c.args.file.now c.args.records.now c.loop-k.records c.add_triple.new.records c.loop-k.table c.add_triple.new.table c.loop-k.k c.loop-k.blanks c.in-Some-behind_triple.behind
-      c.in-Some.triple (sym c.get.ensures ∙ c.in-Some.is) c.loop-k.invariant c.in_ok-add_triple.ensures.added c.in_ok-add_triple.ensures.table c.in_ok-add_triple.ensures.few c.in-Some-behind_triple.ensures)
+    subst (λ (n : ℕ). IsAdded c.args.shift.blanks c.args.shift.bytes c.args.file.now c.args.records.now c.add_triple.new.records c.add_triple.new.table (c.loop-k.k + 1) n) (sym c.in-Some-count_blanks.ensures)
+    (added_one c.args.shift.blanks c.args.shift.bytes c.args.file.now c.args.records.now c.loop-k.records c.add_triple.new.records c.loop-k.table c.add_triple.new.table c.loop-k.k c.loop-k.blanks (behind_triple c.in-Some.triple)
+      c.in-Some.triple (sym c.get.ensures ∙ c.in-Some.is) c.loop-k.invariant c.in_ok-add_triple.ensures.added c.in_ok-add_triple.ensures.table c.in_ok-add_triple.ensures.few refl)
 
 pub returns-clause-added : goal.returns-clause-added
 returns-clause-added c =

@@ -3,4 +3,4 @@ use Rattle.archive_join.proofs.Tables.{blank_table}
 use Rattle.archive_join.proofs.table.NameTable.new.Goals as goal
 
 pub returns : goal.returns
-returns c = λ joined. blank_table c.args.file.now joined _ c.len-count.result (omega (arith, c.len-count.ensures.count)) (c.in_ok-vec.ensures.items_if_clones_equal (λ y e. e)) (c.in_ok-vec-2.ensures.items_if_clones_equal (λ y e. e))
+returns c = λ joined. blank_table c.args.file.now joined _ c.len-count.result (omega (arith, c.len-count.ensures.count)) c.in_ok-no_terms.ensures c.in_ok-no_terms-2.ensures
