@@ -21,13 +21,13 @@ abbrev pub behind : ℕ → ℕ → NameLists → List Triple → List ValueTrip
 behind blanks length names triples = map (moved blanks length) (value_triples names triples)
 
 -- So far as the first k triples of a file were added.
-pub record IsAdded (blanks length : ℕ) (file start now : Records) (table : NameTable) (k seen : ℕ) : Type 0 where
+pub record IsAdded (blanks length : ℕ) (file start reached : Records) (terms : NameTable) (k bound : ℕ) : Type 0 where
   pub done : List ValueTriple
   pub all : triples_behind blanks length file ≡ done ++ behind blanks length file.names (drop k file.triples)
-  pub now : now ≡ with_all start done
-  pub table : IsTable file.names now.names table
-  pub few : AreFew now
-  pub seen : max seen (blank_count (drop k file.triples)) ≡ blank_count file.triples
+  pub now : reached ≡ with_all start done
+  pub table : IsTable file.names reached.names terms
+  pub few : AreFew reached
+  pub seen : max bound (blank_count (drop k file.triples)) ≡ blank_count file.triples
 
 with_all_one : (r : Records) (xs : List ValueTriple) (x : ValueTriple) → with_all r (xs ++ x ∷ []) ≡ with_values (with_all r xs) x
 unfolding with_all

@@ -1,3 +1,4 @@
 pub mod Renumbering
 pub mod Tables
 pub mod Adding
+pub mod Growing

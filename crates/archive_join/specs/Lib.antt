@@ -1,3 +1,5 @@
+pub mod Archives
 pub mod Joining
 pub mod Named
+pub mod Refusals
 pub mod Values

@@ -1,5 +1,5 @@
 // The records of a file, added behind others.
-ghost use Rattle.std.specs.Prelude.{◌≡◌, IfOk, IfErr, IfSome, OnOk};
+ghost use Rattle.std.specs.Prelude.{◌≡◌, IfOk, IfErr, IfSome, OnOk, max};
 ghost use Rattle.std.specs.Option.{option_map};
 ghost use Rattle.rdf_terms.specs.declared.terms.Refusal.{Refusal};
 ghost use Rattle.archive_join.specs.Values.{AreFew, IsFirstPast, value_triple, with_all};
@@ -39,7 +39,7 @@ fn triple_fault(fault: TripleFault, at: u64) -> JoinFault
     }
 }
 
-// The first number above that of a blank node, or None where there is none.
+// The first number above that of a blank node, or None where it is too large.
 fn behind_term(term: Term) -> Option<u32>
     ensures { IfSome result (λ n. n ≡ spec.behind_term term) }
 {
@@ -50,13 +50,14 @@ fn behind_term(term: Term) -> Option<u32>
     }
 }
 
-fn behind_triple(triple: Triple) -> Option<u32>
-    ensures { IfSome result (λ n. n ≡ spec.behind_triple triple) }
+// The count of blank nodes with those of a triple, or None where it is too large.
+fn count_blanks(count: u32, triple: Triple) -> Option<u32>
+    ensures { IfSome result (λ n. n ≡ max count (spec.behind_triple triple)) }
 {
     let s = behind_term(triple.s)?;
     let p = behind_term(triple.p)?;
     let o = behind_term(triple.o)?;
-    Some(s.max(p).max(o))
+    Some(count.max(s.max(p).max(o)))
 }
 
 // Adds what a triple of the file says.
@@ -111,10 +112,10 @@ pub(crate) fn add_records(
             unreachable!()
         };
         add_triple(alloc, shift, &file.names, triple, &mut table, records)?;
-        let Some(behind) = behind_triple(triple) else {
+        let Some(count) = count_blanks(blanks, triple) else {
             return Err(JoinFault::Memory);
         };
-        blanks = blanks.max(behind);
+        blanks = count;
     }
     Ok(blanks)
 }

@@ -2,8 +2,13 @@
 #![tactic(auto)]
 
 mod faults;
+mod joiner;
 mod joining;
+pub mod laws;
 mod named;
+mod refusals;
 mod table;
 
 pub use faults::JoinFault;
+pub use joiner::Joiner;
+pub use refusals::report_file_refusal;

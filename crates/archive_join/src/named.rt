@@ -7,6 +7,7 @@ ghost use Rattle.archive_join.specs.Named.{value_of, values_of, IsNamed, AreName
 use rdf_terms::{Literal, Names, Term, Triple};
 
 /// What a term stands for, with its number.
+#[derive(Clone, Copy)]
 pub(crate) enum Named<'a> {
     Iri(u32, &'a str),
     Blank(u32),
@@ -14,6 +15,7 @@ pub(crate) enum Named<'a> {
 }
 
 /// What the terms of a triple stand for.
+#[derive(Clone, Copy)]
 pub(crate) struct NamedTriple<'a> {
     pub s: Named<'a>,
     pub p: Named<'a>,

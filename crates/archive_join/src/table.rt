@@ -1,5 +1,5 @@
 // The terms that the names of a file have among the joined ones.
-ghost use Rattle.std.specs.Prelude.{◌≡◌, ◌+◌, ◌<◌, ◌≤◌, ◌^◌, ℕ, length, IfOk, OnOk, OnErr, IsErrOf, slice_get, Some, true};
+ghost use Rattle.std.specs.Prelude.{◌≡◌, ◌+◌, ◌<◌, ◌≤◌, ◌^◌, ℕ, length, IfOk, OnOk, OnErr, IsErrOf, slice_get, Some, None, true, replicate};
 ghost use Rattle.rdf_terms.specs.Naming.{NameLists, has_iri, has_literal, with_iri, iri_number, with_literal, literal_number, name_count};
 ghost use Rattle.archive_join.specs.Values.{names_with, names_with_three, term_of, terms_of};
 ghost use Rattle.archive_join.specs.Joining.{moved_value, moved};
@@ -27,6 +27,13 @@ fn copy_literal(alloc: Global, literal: &Literal) -> Result<Literal, AllocError>
     })
 }
 
+// So many names of which none came.
+fn no_terms(alloc: Global, count: usize) -> Result<Vec<Option<Term>>, AllocError>
+    ensures { IfOk result (λ v. v.items ≡ replicate count None) }
+{
+    vec![in alloc; None; count]
+}
+
 impl NameTable {
     /// Of the names of a file, none of which came.
     pub(crate) fn new(alloc: Global, file: &Names) -> Result<NameTable, AllocError>
@@ -34,8 +41,8 @@ impl NameTable {
     {
         let count = file.len() as usize;
         Ok(NameTable {
-            iris: vec![in alloc; None; count]?,
-            literals: vec![in alloc; None; count]?,
+            iris: no_terms(alloc, count)?,
+            literals: no_terms(alloc, count)?,
         })
     }
 
@@ -97,7 +104,7 @@ impl NameTable {
         blanks: u32,
         joined: &mut Names,
     ) -> Result<Term, NameFault>
-        requires { (file : NameLists) × IsTable file joined.old self.old × IsNamed file named.entry }
+        requires { (file : NameLists) × IsTable file joined.old self.old × IsNamed file named }
         ensures term { IfOk result (λ t. t ≡ term_of joined.old (moved_value blanks (value_of named.entry))) }
         ensures names { OnOk result (joined.new ≡ names_with joined.old (moved_value blanks (value_of named.entry))) }
         ensures table { OnOk result ((file : NameLists) → IsNamed file named.entry → IsTable file joined.old self.old → IsTable file joined.new self.new) }
@@ -122,7 +129,7 @@ impl NameTable {
         blanks: u32,
         joined: &mut Names,
     ) -> Result<(Term, Term, Term), NameFault>
-        requires { (file : NameLists) × IsTable file joined.old self.old × AreNamed file named.entry }
+        requires { (file : NameLists) × IsTable file joined.old self.old × AreNamed file named }
         ensures terms { IfOk result (λ ts. ts ≡ terms_of joined.old (moved blanks 0 (values_of 0 named.entry))) }
         ensures names { OnOk result (joined.new ≡ names_with_three joined.old (moved blanks 0 (values_of 0 named.entry))) }
         ensures table { OnOk result ((file : NameLists) → AreNamed file named.entry → IsTable file joined.old self.old → IsTable file joined.new self.new) }

@@ -173,3 +173,16 @@ out_of_opened o name start left (Err (Refused f)) opened p = elim p [
   | inl end ↦ inl end
   | inr past ↦ inr (taken_to o name start left past.bytes 67108865 opened past.taken past.count)
 ]
+
+-- a file that is fed in one piece
+pub fed_whole : (before now answer : List ℕ → Answer) (bytes : List ℕ) → ((more : List ℕ) → now more ≡ before (bytes ++ more)) → ((xs : List ℕ) → before xs ≡ answer xs) → now [] ≡ answer bytes
+fed_whole before now answer bytes fed is = fed [] ∙ is (bytes ++ []) ∙ ap answer (append-nil bytes)
+
+pub read_as : (a b : Answer) (r : Result Records ReadRefusal) → a ≡ b → IfOk r (λ x. a ≡ Read x) → IfOk r (λ x. b ≡ Read x)
+read_as a b r e h = subst (λ (z : Answer). IfOk r (λ x. z ≡ Read x)) e h
+
+pub refused_as : (a b : Answer) (r : Result Records ReadRefusal) → a ≡ b → IfErr r (λ x. IsRefusal x a) → IfErr r (λ x. IsRefusal x b)
+refused_as a b r e h = subst (λ (z : Answer). IfErr r (λ x. IsRefusal x z)) e h
+
+pub short_as : (b c : Bool) (base : Option (List ℕ)) (bytes : List ℕ) → length bytes ≤ 67108864 → c ≡ b → text_answer b base bytes ≡ file_answer c base bytes
+short_as b c base bytes le e = sym (short_file c base bytes le ∙ ap (λ (t : Bool). text_answer t base bytes) e)

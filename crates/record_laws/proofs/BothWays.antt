@@ -58,7 +58,6 @@ consistent_alike r q m back s = (consistent_goes r q m back s, consistent_goes q
 
 moved_boundary : (r q : Records) (m back : Term → Term) (s : Same r q m back) (start : Bool) (node : Term) → is_numbered (findings_from r).extents node ≡ true
     → point_of r.names q.names r.triples q.triples m (one r q m back s) (boundary start (extent_number (findings_from r).extents node)) ≡ boundary start (extent_number (findings_from q).extents (m node))
-unfolding point_of
 moved_boundary r q m back s true node h = ap (λ (k : ℕ). boundary true k) (number_of_node r.names q.names r.triples q.triples m (one r q m back s) node h)
 moved_boundary r q m back s false node h = ap (λ (k : ℕ). boundary false k) (number_of_node r.names q.names r.triples q.triples m (one r q m back s) node h)
 

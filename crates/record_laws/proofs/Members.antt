@@ -31,11 +31,11 @@ any_in P (y ∷ ys) x (inr h) p = or_right (P y) (list_any P ys) (any_in P ys x 
 
 pub in_any : {X : Type 0} (P : X → Bool) (xs : List X) → list_any P xs ≡ true → (x : X) × In x xs × (P x ≡ true)
 in_any P [] h = absurd (true≢false (sym h))
-in_any {X} P (y ∷ ys) h = by (P y) refl h
+in_any {X} P (y ∷ ys) h = by (P y) refl h (in_any P ys)
   where
-    by : (b : Bool) → P y ≡ b → (b || list_any P ys) ≡ true → (x : X) × In x (y ∷ ys) × (P x ≡ true)
-    by true e h = (y, inl refl, e)
-    by false e h = let r = in_any P ys h in (r.0, inr r.1, r.2)
+    by : (b : Bool) → P y ≡ b → (b || list_any P ys) ≡ true → (list_any P ys ≡ true → (x : X) × In x ys × (P x ≡ true)) → (x : X) × In x (y ∷ ys) × (P x ≡ true)
+    by true e h rest = (y, inl refl, e)
+    by false e h rest = let r = rest h in (r.0, inr r.1, r.2)
 
 pub same_terms-refl : (t : Triple) → same_terms t t ≡ true
 same_terms-refl t = rw (same_term-refl t.s, same_term-refl t.p, same_term-refl t.o) refl

@@ -1,8 +1,8 @@
 -- The orders of two archives that say the same are the same, but for the numbers of extents.
 use Rattle.std.proofs.Common.{◌≡◌, ℕ, zero, suc, ℤ, ◌+◌, ◌<◌, ◌-◌, ◌⊎◌, inl, inr, Bool, true, false, true≢false, ◌&&◌, ◌||◌, not, cond, Option, Some, None, is_some, List, [], ◌∷◌, ◌++◌, length, get_or, map, filter, refl, sym, ap, subst, ◌∙◌, arith}
-use Rattle.std.specs.Prelude.{flat_map, ◌<ℤ◌, slice_index_or}
+use Rattle.std.specs.Prelude.{◌<ℤ◌}
 use Rattle.std.specs.Option.{option_map}
-use Rattle.std.specs.List.{list_any, list_all, filter_map, cons_option, fold, position_or_len, AllByRecursion, All}
+use Rattle.std.specs.List.{list_any, list_all, filter_map, flat_map, cons_option, fold, position_or_len, AllByRecursion, All}
 use Rattle.std.specs.List.Sorted.{IsStrictlySortedBy}
 use Rattle.std.specs.Ordering.{int_cmp, match_ordering}
 use Rattle.std.specs.BTreeSet.{insert_key}
@@ -45,21 +45,21 @@ use Rattle.record_laws.proofs.Walking.{at_in, in_at, in_left, in_right, in_eithe
 -- elements of lists that are made of others
 in_filtered : {X Y : Type 0} (h : X → Option Y) (xs : List X) (y : Y) → In y (filter_map h xs) → (x : X) × In x xs × (h x ≡ Some y)
 in_filtered h [] y i = absurd i
-in_filtered {X} {Y} h (x ∷ xs) y i = by (h x) refl i
+in_filtered {X} {Y} h (x ∷ xs) y i = by (h x) refl i (in_filtered h xs y)
   where
-    by : (o : Option Y) → h x ≡ o → In y (cons_option o (filter_map h xs)) → (z : X) × In z (x ∷ xs) × (h z ≡ Some y)
-    by None e i = let r = in_filtered h xs y i in (r.0, inr r.1, r.2)
-    by (Some z) e (inl p) = (x, inl refl, e ∙ ap (λ (w : Y). Some w) (sym p))
-    by (Some z) e (inr i) = let r = in_filtered h xs y i in (r.0, inr r.1, r.2)
+    by : (o : Option Y) → h x ≡ o → In y (cons_option o (filter_map h xs)) → (In y (filter_map h xs) → (z : X) × In z xs × (h z ≡ Some y)) → (z : X) × In z (x ∷ xs) × (h z ≡ Some y)
+    by None e i rest = let r = rest i in (r.0, inr r.1, r.2)
+    by (Some z) e (inl p) rest = (x, inl refl, e ∙ ap (λ (w : Y). Some w) (sym p))
+    by (Some z) e (inr i) rest = let r = rest i in (r.0, inr r.1, r.2)
 
 filtered_in : {X Y : Type 0} (h : X → Option Y) (xs : List X) (x : X) (y : Y) → In x xs → h x ≡ Some y → In y (filter_map h xs)
 filtered_in h [] x y i e = absurd i
 filtered_in {X} {Y} h (z ∷ zs) x y (inl p) e = subst (λ (o : Option Y). In y (cons_option o (filter_map h zs))) (sym (ap h (sym p) ∙ e)) (inl refl)
-filtered_in {X} {Y} h (z ∷ zs) x y (inr i) e = by (h z)
+filtered_in {X} {Y} h (z ∷ zs) x y (inr i) e = by (h z) (filtered_in h zs x y i e)
   where
-    by : (o : Option Y) → In y (cons_option o (filter_map h zs))
-    by None = filtered_in h zs x y i e
-    by (Some w) = inr (filtered_in h zs x y i e)
+    by : (o : Option Y) → In y (filter_map h zs) → In y (cons_option o (filter_map h zs))
+    by None rest = rest
+    by (Some w) rest = inr rest
 
 in_flat : {X Y : Type 0} (g : X → List Y) (xs : List X) (y : Y) → In y (flat_map g xs) → (x : X) × In x xs × In y (g x)
 in_flat g [] y i = absurd i
@@ -165,28 +165,28 @@ equal_exact a b e = int_ranked a b Equal (sym e)
 in_inserted : (ks : List ℤ) (k z : ℤ) → In z (insert_key int_cmp ks k) → (z ≡ k) ⊎ In z ks
 in_inserted [] k z (inl e) = inl e
 in_inserted [] k z (inr i) = absurd i
-in_inserted (x ∷ xs) k z i = by (int_cmp k x) i
+in_inserted (x ∷ xs) k z i = by (int_cmp k x) i (in_inserted xs k z)
   where
-    by : (o : Ordering) → In z (match_ordering o (k ∷ x ∷ xs) (x ∷ xs) (x ∷ insert_key int_cmp xs k)) → (z ≡ k) ⊎ In z (x ∷ xs)
-    by Less (inl e) = inl e
-    by Less (inr j) = inr j
-    by Equal j = inr j
-    by Greater (inl e) = inr (inl e)
-    by Greater (inr j) = elim (in_inserted xs k z j) [ | inl e ↦ inl e | inr h ↦ inr (inr h) ]
+    by : (o : Ordering) → In z (match_ordering o (k ∷ x ∷ xs) (x ∷ xs) (x ∷ insert_key int_cmp xs k)) → (In z (insert_key int_cmp xs k) → (z ≡ k) ⊎ In z xs) → (z ≡ k) ⊎ In z (x ∷ xs)
+    by Less (inl e) rest = inl e
+    by Less (inr j) rest = inr j
+    by Equal j rest = inr j
+    by Greater (inl e) rest = inr (inl e)
+    by Greater (inr j) rest = elim (rest j) [ | inl e ↦ inl e | inr h ↦ inr (inr h) ]
 
 inserted_in : (ks : List ℤ) (k z : ℤ) → (z ≡ k) ⊎ In z ks → In z (insert_key int_cmp ks k)
 inserted_in [] k z (inl e) = inl e
 inserted_in [] k z (inr i) = absurd i
-inserted_in (x ∷ xs) k z h = by (int_cmp k x) refl h
+inserted_in (x ∷ xs) k z h = by (int_cmp k x) refl h (inserted_in xs k z)
   where
-    by : (o : Ordering) → int_cmp k x ≡ o → (z ≡ k) ⊎ In z (x ∷ xs) → In z (match_ordering o (k ∷ x ∷ xs) (x ∷ xs) (x ∷ insert_key int_cmp xs k))
-    by Less e (inl p) = inl p
-    by Less e (inr i) = inr i
-    by Equal e (inl p) = inl (p ∙ equal_exact k x e)
-    by Equal e (inr i) = i
-    by Greater e (inl p) = inr (inserted_in xs k z (inl p))
-    by Greater e (inr (inl p)) = inl p
-    by Greater e (inr (inr i)) = inr (inserted_in xs k z (inr i))
+    by : (o : Ordering) → int_cmp k x ≡ o → (z ≡ k) ⊎ In z (x ∷ xs) → ((z ≡ k) ⊎ In z xs → In z (insert_key int_cmp xs k)) → In z (match_ordering o (k ∷ x ∷ xs) (x ∷ xs) (x ∷ insert_key int_cmp xs k))
+    by Less e (inl p) rest = inl p
+    by Less e (inr i) rest = inr i
+    by Equal e (inl p) rest = inl (p ∙ equal_exact k x e)
+    by Equal e (inr i) rest = i
+    by Greater e (inl p) rest = inr (rest (inl p))
+    by Greater e (inr (inl p)) rest = inl p
+    by Greater e (inr (inr i)) rest = inr (rest (inr i))
 
 in_all_inserted : (ts ks : List ℤ) (z : ℤ) → In z (fold (insert_key int_cmp) ks ts) → In z ks ⊎ In z ts
 in_all_inserted [] ks z i = inl i
@@ -204,7 +204,7 @@ all_inserted_in (t ∷ ts) ks z (inr (inr i)) = all_inserted_in ts (insert_key i
 
 in_dates : (names : NameLists) (ss : List (ℕ × Statement)) (z : ℤ) → In z (dates_of names ss) → (x : ℕ × Statement) × In x ss × (instant_of names x.1 ≡ Some z)
 in_dates names ss z i = elim (in_all_inserted (filter_map (λ (s : ℕ × Statement). instant_of names s.1) ss) [] z i) [
-  | inl no ↦ absurd no
+  | inl never ↦ absurd never
   | inr j ↦ in_filtered (λ (s : ℕ × Statement). instant_of names s.1) ss z j
 ]
 
@@ -215,7 +215,7 @@ dates_in names ss z x i e =
 -- a node among distinct ones
 filter_any : (Q : Term → Bool) (t : Term) (xs : List Term) → (Q t || list_any Q (filter (λ u. not (same_term t u)) xs)) ≡ (Q t || list_any Q xs)
 filter_any Q t [] = refl
-filter_any Q t (x ∷ xs) = by (same_term t x) refl
+filter_any Q t (x ∷ xs) = by (same_term t x) refl (filter_any Q t xs)
   where
     turn : (a b c d : Bool) → (a || c) ≡ (a || d) → (a || (b || c)) ≡ (a || (b || d))
     turn true b c d e = refl
@@ -227,9 +227,9 @@ filter_any Q t (x ∷ xs) = by (same_term t x) refl
     drop_same false true c d p e = absurd (true≢false p)
     drop_same false false c d p e = e
 
-    by : (b : Bool) → same_term t x ≡ b → (Q t || list_any Q (cond (not b) (x ∷ filter (λ u. not (same_term t u)) xs) (filter (λ u. not (same_term t u)) xs))) ≡ (Q t || (Q x || list_any Q xs))
-    by true e = drop_same (Q t) (Q x) (list_any Q (filter (λ u. not (same_term t u)) xs)) (list_any Q xs) (ap Q (sym (same_term-true t x e))) (filter_any Q t xs)
-    by false e = turn (Q t) (Q x) (list_any Q (filter (λ u. not (same_term t u)) xs)) (list_any Q xs) (filter_any Q t xs)
+    by : (b : Bool) → same_term t x ≡ b → (Q t || list_any Q (filter (λ u. not (same_term t u)) xs)) ≡ (Q t || list_any Q xs) → (Q t || list_any Q (cond (not b) (x ∷ filter (λ u. not (same_term t u)) xs) (filter (λ u. not (same_term t u)) xs))) ≡ (Q t || (Q x || list_any Q xs))
+    by true e rest = drop_same (Q t) (Q x) (list_any Q (filter (λ u. not (same_term t u)) xs)) (list_any Q xs) (ap Q (sym (same_term-true t x e))) rest
+    by false e rest = turn (Q t) (Q x) (list_any Q (filter (λ u. not (same_term t u)) xs)) (list_any Q xs) rest
 
 any_distinct : (Q : Term → Bool) (ts : List Term) → list_any Q (distinct ts) ≡ list_any Q ts
 any_distinct Q [] = refl
@@ -237,17 +237,19 @@ any_distinct Q (t ∷ ts) = filter_any Q t (distinct ts) ∙ ap (λ (b : Bool). 
 
 place_holds : {X : Type 0} (p : X → Bool) (xs : List X) (d : X) → list_any p xs ≡ true → p (get_or xs (position_or_len p xs) d) ≡ true
 place_holds p [] d h = absurd (true≢false (sym h))
-place_holds {X} p (x ∷ xs) d h = by (p x) refl h
+place_holds {X} p (x ∷ xs) d h = by (p x) refl h (place_holds p xs d)
   where
-    by : (b : Bool) → p x ≡ b → (b || list_any p xs) ≡ true → p (get_or (x ∷ xs) (cond b 0 (suc (position_or_len p xs))) d) ≡ true
-    by true e h = e
-    by false e h = place_holds p xs d h
+    by : (b : Bool) → p x ≡ b → (b || list_any p xs) ≡ true → (list_any p xs ≡ true → p (get_or xs (position_or_len p xs) d) ≡ true) → p (get_or (x ∷ xs) (cond (not b) (1 + position_or_len p xs) 0) d) ≡ true
+    by true e h rest = e
+    by false e h rest =
+        let next : suc (position_or_len p xs) ≡ 1 + position_or_len p xs = omega arith in
+        subst (λ (k : ℕ). p (get_or (x ∷ xs) k d) ≡ true) next (rest h)
 
 in_extents : (n : ℕ) (o : Order) → In o (extent_orders n) → (k : ℕ) × (k < n) × (o ≡ record { low = Start k; high = End k; strict = true; by = Extent k })
 in_extents zero o i = absurd i
 in_extents (suc n) o i = elim (in_either (extent_orders n) (record { low = Start n; high = End n; strict = true; by = Extent n } ∷ []) o i) [
   | inl a ↦ (let r = in_extents n o a in (r.0, omega (arith, r.1), r.2))
-  | inr b ↦ elim b [ | inl e ↦ (n, omega arith, e) | inr no ↦ absurd no ]
+  | inr b ↦ elim b [ | inl e ↦ (n, omega arith, e) | inr never ↦ absurd never ]
 ]
 
 extents_in : (n k : ℕ) → k < n → In (record { low = Start k; high = End k; strict = true; by = Extent k }) (extent_orders n)
@@ -261,7 +263,7 @@ in_date_orders : (n : ℕ) (o : Order) → In o (date_orders n) → (k : ℕ) ×
 in_date_orders zero o i = absurd i
 in_date_orders (suc n) o i = elim (in_either (date_orders n) (record { low = Date n; high = Date (n + 1); strict = true; by = Dates } ∷ []) o i) [
   | inl a ↦ in_date_orders n o a
-  | inr b ↦ elim b [ | inl e ↦ (n, e) | inr no ↦ absurd no ]
+  | inr b ↦ elim b [ | inl e ↦ (n, e) | inr never ↦ absurd never ]
 ]
 
 module _ (names other : NameLists) (triples others : List Triple) (m : Term → Term) (same : OneWay names triples other others m) where
@@ -293,7 +295,8 @@ module _ (names other : NameLists) (triples others : List Triple) (m : Term → 
   instant_same s = ap (λ (l : Option Literal). cond (is_dated s.code) (instant_in s.code l) None) (same.renaming.literals s.range)
 
   pub dates_same : dates_of other (statements_of other (number_from 0 others) (faults_of other (number_from 0 others))) ≡ dates_of names (statements_of names (number_from 0 triples) (faults_of names (number_from 0 triples)))
-  dates_same = same_sorted (dates_of other theirs) (dates_of names ours) (ascending _) (ascending _) down up
+  dates_same =
+      same_sorted (dates_of other theirs) (dates_of names ours) (ascending (filter_map (λ (s : ℕ × Statement). instant_of other s.1) theirs)) (ascending (filter_map (λ (s : ℕ × Statement). instant_of names s.1) ours)) down up
     where
       ours : List (ℕ × Statement)
       ours = statements_of names (number_from 0 triples) (faults_of names (number_from 0 triples))
@@ -373,33 +376,30 @@ module _ (names other : NameLists) (triples others : List Triple) (m : Term → 
         (is_end_row (kind_of (standings_of other (number_from 0 others) their_faults)) (m node)) (end_row_same node)
       ∙ sym (listed (kind_of (standings_of names (number_from 0 triples) our_faults)) triples node)
 
-  node_at : ℕ → Term
+  abbrev pub node_at : ℕ → Term
   node_at k = (get_or our_extents k (term.Iri 0, false)).0
 
-  number_at : ℕ → ℕ
+  abbrev pub number_at : ℕ → ℕ
   number_at k = extent_number their_extents (m (node_at k))
 
   -- the points of extents by their new numbers
-  pub point_of : Point → Point
+  abbrev pub point_of : Point → Point
   point_of (Start k) = Start (number_at k)
   point_of (End k) = End (number_at k)
   point_of (Date k) = Date k
 
   pub number_of_node : (node : Term) → is_numbered our_extents node ≡ true → number_at (extent_number our_extents node) ≡ extent_number their_extents (m node)
-  unfolding number_at node_at
   number_of_node node h =
       ap (λ (x : Term). extent_number their_extents (m x))
         (sym (same_term-true node (get_or our_extents (extent_number our_extents node) (term.Iri 0, false)).0 (place_holds (λ (e : Term × Bool). same_term node e.0) our_extents (term.Iri 0, false) h)))
 
   number_within : (k : ℕ) → k < length our_extents → number_at k < length their_extents
-  unfolding number_at node_at
   number_within k lt =
       place_within (λ (e : Term × Bool). same_term (m (node_at k)) e.0) their_extents
         (numbered_same (node_at k) ∙ any_in (λ (e : Term × Bool). same_term (node_at k) e.0) our_extents (get_or our_extents k (term.Iri 0, false)) (at_in our_extents k (term.Iri 0, false) lt) (same_term-refl (node_at k)))
 
   spot_same : (dated : Bool) (spot : Spot) (d r d' r' : ℕ) → spot_fits dated spot ≡ true → d' ≡ number_at d → (dated ≡ true → r' ≡ r) → (dated ≡ false → r' ≡ number_at r)
       → point_at d' r' spot ≡ point_of (point_at d r spot)
-  unfolding point_of
   spot_same dated DomainStart d r d' r' fits p q w = ap (λ (k : ℕ). Start k) p
   spot_same dated DomainEnd d r d' r' fits p q w = ap (λ (k : ℕ). End k) p
   spot_same true RangeStart d r d' r' fits p q w = absurd (true≢false (sym fits))
@@ -471,9 +471,7 @@ module _ (names other : NameLists) (triples others : List Triple) (m : Term → 
     where
       extent_moved : (k : ℕ) (o : Order) → o ≡ record { low = Start k; high = End k; strict = true; by = Extent k }
           → IsMoved point_of o (record { low = Start (number_at k); high = End (number_at k); strict = true; by = Extent (number_at k) })
-      unfolding point_of
       extent_moved k o e = subst (λ (x : Order). IsMoved point_of x (record { low = Start (number_at k); high = End (number_at k); strict = true; by = Extent (number_at k) })) (sym e) (record { low = refl; high = refl; strict = refl })
 
       date_moved : (k : ℕ) (o : Order) → o ≡ record { low = Date k; high = Date (k + 1); strict = true; by = Dates } → IsMoved point_of o o
-      unfolding point_of
       date_moved k o e = subst (λ (x : Order). IsMoved point_of x x) (sym e) (record { low = refl; high = refl; strict = refl })

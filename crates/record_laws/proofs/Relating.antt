@@ -10,6 +10,7 @@ use Rattle.rdf_terms.specs.Naming.{NameLists}
 use Rattle.rdf_terms.proofs.TermLemmas.{same_terms-true}
 use Rattle.crm_properties.specs.declared.Prop.{Prop}
 use Rattle.crm_properties.specs.PropertyNumbers.{is_typed_relation}
+use Rattle.crm_type_check.specs.declared.own.OwnFaults.{OwnFaults}
 use Rattle.crm_type_check.specs.declared.relation.Occurrence.{Occurrence}
 use Rattle.crm_type_check.specs.declared.relation.Occurrence.TheVariants.{Absent, Once, Repeated}
 use Rattle.crm_type_check.specs.declared.relation.Relation.{Relation}
@@ -23,22 +24,22 @@ use Rattle.record_laws.proofs.Owning.{property_same, subject_same, own_same}
 
 filter_in : {X : Type 0} (P : X → Bool) (xs : List X) (x : X) → In x xs → P x ≡ true → In x (filter P xs)
 filter_in P [] x h p = absurd h
-filter_in {X} P (y ∷ ys) x h p = by (P y) refl h
+filter_in {X} P (y ∷ ys) x h p = by (P y) refl h (λ i. filter_in P ys x i p)
   where
-    by : (b : Bool) → P y ≡ b → In x (y ∷ ys) → In x (cond b (y ∷ filter P ys) (filter P ys))
-    by true e (inl q) = inl q
-    by true e (inr q) = inr (filter_in P ys x q p)
-    by false e (inl q) = absurd (true≢false (sym p ∙ ap P q ∙ e))
-    by false e (inr q) = filter_in P ys x q p
+    by : (b : Bool) → P y ≡ b → In x (y ∷ ys) → (In x ys → In x (filter P ys)) → In x (cond b (y ∷ filter P ys) (filter P ys))
+    by true e (inl q) rest = inl q
+    by true e (inr q) rest = inr (rest q)
+    by false e (inl q) rest = absurd (true≢false (sym p ∙ ap P q ∙ e))
+    by false e (inr q) rest = rest q
 
 in_filter : {X : Type 0} (P : X → Bool) (xs : List X) (x : X) → In x (filter P xs) → In x xs × (P x ≡ true)
 in_filter P [] x h = absurd h
-in_filter {X} P (y ∷ ys) x h = by (P y) refl h
+in_filter {X} P (y ∷ ys) x h = by (P y) refl h (in_filter P ys x)
   where
-    by : (b : Bool) → P y ≡ b → In x (cond b (y ∷ filter P ys) (filter P ys)) → In x (y ∷ ys) × (P x ≡ true)
-    by true e (inl q) = (inl q, ap P q ∙ e)
-    by true e (inr q) = let r = in_filter P ys x q in (inr r.0, r.1)
-    by false e q = let r = in_filter P ys x q in (inr r.0, r.1)
+    by : (b : Bool) → P y ≡ b → In x (cond b (y ∷ filter P ys) (filter P ys)) → (In x (filter P ys) → In x ys × (P x ≡ true)) → In x (y ∷ ys) × (P x ≡ true)
+    by true e (inl q) rest = (inl q, ap P q ∙ e)
+    by true e (inr q) rest = let r = rest q in (inr r.0, r.1)
+    by false e q rest = let r = rest q in (inr r.0, r.1)
 
 all_in : {X : Type 0} (Q : X → Type 0) (xs : List X) → AllByRecursion Q xs → (x : X) → In x xs → Q x
 all_in Q [] h x i = absurd i
@@ -52,11 +53,11 @@ in_all Q (y ∷ ys) h = (h y (inl refl), in_all Q ys (λ x i. h x (inr i)))
 filter_distinct : {X : Type 0} (e : X → X → Bool) (P : X → Bool) (xs : List X) → IsDistinct e xs → IsDistinct e (filter P xs)
 unfolding IsDistinct
 filter_distinct e P [] h = tt
-filter_distinct {X} e P (y ∷ ys) h = by (P y)
+filter_distinct {X} e P (y ∷ ys) h = by (P y) (filter_distinct e P ys h.1)
   where
-    by : (b : Bool) → IsDistinct e (cond b (y ∷ filter P ys) (filter P ys))
-    by true = (in_all (λ x. e y x ≡ false) (filter P ys) (λ x i. all_in (λ x. e y x ≡ false) ys h.0 x (in_filter P ys x i).0), filter_distinct e P ys h.1)
-    by false = filter_distinct e P ys h.1
+    by : (b : Bool) → IsDistinct e (filter P ys) → IsDistinct e (cond b (y ∷ filter P ys) (filter P ys))
+    by true rest = (in_all (λ x. e y x ≡ false) (filter P ys) (λ x i. all_in (λ x. e y x ≡ false) ys h.0 x (in_filter P ys x i).0), rest)
+    by false rest = rest
 
 -- what is asked of two that stand first
 first_two : {X : Type 0} (e : X → X → Bool) (x y : X) (zs : List X) → IsDistinct e (x ∷ y ∷ zs) → e x y ≡ false
@@ -98,7 +99,7 @@ module _ (m : Term → Term) (apart : (t u : Term) → same_term (m t) (m u) ≡
     where
       by : (x : Triple) → In x (u ∷ []) → IsRenamed m t x → IsRenamed m t u
       by x (inl e) r = subst (λ (y : Triple). IsRenamed m t y) e r
-      by x (inr no) r = absurd no
+      by x (inr never) r = absurd never
   occurrence_same (t ∷ []) (u ∷ v ∷ us) dt du go come =
       let a = come u (inl refl) in
       let b = come v (inr (inl refl)) in
@@ -108,7 +109,7 @@ module _ (m : Term → Term) (apart : (t u : Term) → same_term (m t) (m u) ≡
     where
       one : (x y : Triple) → In x (t ∷ []) → IsRenamed m x y → IsRenamed m t y
       one x y (inl e) r = subst (λ (z : Triple). IsRenamed m z y) e r
-      one x y (inr no) r = absurd no
+      one x y (inr never) r = absurd never
   occurrence_same (t ∷ s ∷ ts) (u ∷ []) dt du go come =
       let a = go t (inl refl) in
       let b = go s (inr (inl refl)) in
@@ -118,7 +119,7 @@ module _ (m : Term → Term) (apart : (t u : Term) → same_term (m t) (m u) ≡
     where
       one : (x y : Triple) → In y (u ∷ []) → IsRenamed m x y → IsRenamed m x u
       one x y (inl e) r = subst (λ (z : Triple). IsRenamed m x z) e r
-      one x y (inr no) r = absurd no
+      one x y (inr never) r = absurd never
   occurrence_same (t ∷ s ∷ ts) (u ∷ v ∷ us) dt du go come = tt
 
 module _ (names other : NameLists) (triples others : List Triple) (m : Term → Term) (same : OneWay names triples other others m) where
@@ -157,7 +158,8 @@ module _ (names other : NameLists) (triples others : List Triple) (m : Term → 
     pub with_same : (f t k f' t' k' : Occurrence) → AreAlike m f f' → AreAlike m t t' → AreAlike m k k' → relation_with other e f' t' k' ≡ option_map (renamed_relation m) (relation_with names d f t k)
     with_same (Once f) (Once t) (Once k) (Once f') (Once t') (Once k') rf rt rk =
         when_same (is_sound (own_faults names d f) && is_sound (own_faults names d t)) (is_sound (own_faults other e f') && is_sound (own_faults other e t')) _ _
-        (rw (own_same names other m same.renaming d e declared f f' rf, own_same names other m same.renaming d e declared t t' rt) refl)
+        (ap (λ (x : OwnFaults). is_sound x && is_sound (own_faults other e t')) (own_same names other m same.renaming d e declared f f' rf)
+         ∙ ap (λ (x : OwnFaults). is_sound (own_faults names d f) && is_sound x) (own_same names other m same.renaming d e declared t t' rt))
         (ap (λ (o : Option Prop). relation_by f' t' o) (property_same names other m same.renaming k.o k'.o rk.o) ∙ by_same f f' t t' (property_of names k.o) rf rt)
     with_same Absent t k Absent t' k' rf rt rk = refl
     with_same Repeated t k Repeated t' k' rf rt rk = refl

@@ -1,8 +1,8 @@
 -- Which nodes are extents, and which are periods.
 use Rattle.std.proofs.Common.{◌≡◌, ◌≢◌, ℕ, suc, ◌+◌, ◌≤◌, ◌⊎◌, inl, inr, Bool, true, false, true≢false, ◌&&◌, ◌||◌, not, cond, Option, Some, None, List, [], ◌∷◌, ◌++◌, map, refl, sym, ap, subst, ◌∙◌, arith}
-use Rattle.std.specs.Prelude.{◌==◌, flat_map}
+use Rattle.std.specs.Prelude.{◌==◌}
 use Rattle.std.specs.Option.{option_map}
-use Rattle.std.specs.List.{list_any, filter_map, cons_option}
+use Rattle.std.specs.List.{list_any, filter_map, flat_map, cons_option}
 use Rattle.std.proofs.lemmas.Bool.{eqb-true, eq-eqb}
 use Rattle.std.proofs.lemmas.List.Folds.{list_any-append}
 use Rattle.rdf_terms.specs.declared.terms.Term.{Term}
@@ -32,7 +32,7 @@ any_within : {X : Type 0} (P Q : X → Bool) (xs : List X) → ((x : X) → In x
 any_within P Q [] h = refl
 any_within P Q (x ∷ xs) h = ap (λ (b : Bool). b || list_any P xs) (h x (inl refl)) ∙ ap (λ (b : Bool). Q x || b) (any_within P Q xs (λ y i. h y (inr i)))
 
-any_flat : {X Y : Type 0} (P : Y → Bool) (g : X → List Y) (xs : List X) → list_any P (flat_map g xs) ≡ list_any (λ x. list_any P (g x)) xs
+pub any_flat : {X Y : Type 0} (P : Y → Bool) (g : X → List Y) (xs : List X) → list_any P (flat_map g xs) ≡ list_any (λ x. list_any P (g x)) xs
 any_flat P g [] = refl
 any_flat P g (x ∷ xs) = list_any-append P (g x) (flat_map g xs) ∙ ap (λ (b : Bool). list_any P (g x) || b) (any_flat P g xs)
 
@@ -40,7 +40,7 @@ any_option : {Y : Type 0} (P : Y → Bool) (o : Option Y) (ys : List Y) → list
 any_option P None ys = refl
 any_option P (Some y) ys = refl
 
-any_filtered : {X Y : Type 0} (P : Y → Bool) (h : X → Option Y) (xs : List X) → list_any P (filter_map h xs) ≡ list_any (λ x. passes P (h x)) xs
+pub any_filtered : {X Y : Type 0} (P : Y → Bool) (h : X → Option Y) (xs : List X) → list_any P (filter_map h xs) ≡ list_any (λ x. passes P (h x)) xs
 any_filtered P h [] = refl
 any_filtered P h (x ∷ xs) = any_option P (h x) (filter_map h xs) ∙ ap (λ (b : Bool). passes P (h x) || b) (any_filtered P h xs)
 
@@ -81,7 +81,7 @@ named_by n t at (k ∷ ks) = rw (named_by n t at ks) (by (at == n) (some_kind ks
     by false c = refl
 
 -- a triple is faulty where it has a kind of faults
-faulty_is : (names : NameLists) (ts : List Triple) (p : ℕ × Triple) → In p (number_from 0 ts)
+pub faulty_is : (names : NameLists) (ts : List Triple) (p : ℕ × Triple) → In p (number_from 0 ts)
     → is_faulty (faults_of names (number_from 0 ts)) p.0 ≡ some_kind (kinds_of names (number_from 0 ts) p.1)
 faulty_is names ts p h = any_flat (λ (f : Fault). f.triple == p.0) (faults_at names pairs) pairs ∙ same_bool (list_any (λ q. list_any (λ (f : Fault). f.triple == p.0) (faults_at names pairs q)) pairs) (some_kind (kinds_of names pairs p.1)) to from
   where
@@ -183,13 +183,13 @@ module _ (names other : NameLists) (triples others : List Triple) (m : Term → 
   pub meaning_same : (t u : Triple) → IsRenamed m t u → meaning_of other (number_from 0 others) u ≡ option_map (renamed_statement m) (meaning_of names (number_from 0 triples) t)
   meaning_same t u r =
       ap (λ (b : Bool). cond b (by_relation (relation_of other (number_from 0 others) u.s)) (by_property u (property_of other u.p))) (relation_same names other m same.renaming t u r)
-      ∙ by (makes_relation names t)
+      ∙ by (makes_relation names t) _ _ _ _
         (ap (λ (x : Term). by_relation (relation_of other (number_from 0 others) x)) r.s ∙ ap (λ (o : Option Relation). by_relation o) (full_relation_same names other triples others m same t.s) ∙ relation_meaning (relation_of names (number_from 0 triples) t.s))
         (ap (λ (o : Option Prop). by_property u o) (property_same names other m same.renaming t.p u.p r.p) ∙ property_meaning t u (property_of names t.p) r)
     where
-      by : (b : Bool) {x y : Option Statement} {x' y' : Option Statement} → x' ≡ option_map (renamed_statement m) x → y' ≡ option_map (renamed_statement m) y → cond b x' y' ≡ option_map (renamed_statement m) (cond b x y)
-      by true p q = p
-      by false p q = q
+      by : (b : Bool) (x y x' y' : Option Statement) → x' ≡ option_map (renamed_statement m) x → y' ≡ option_map (renamed_statement m) y → cond b x' y' ≡ option_map (renamed_statement m) (cond b x y)
+      by true x y x' y' p q = p
+      by false x y x' y' p q = q
 
   module _ (S S' : Term × Bool → Bool) (alike : (x : Term) (b : Bool) → S' (m x, b) ≡ S (x, b)) where
     stated_same : (t u : Triple) → IsRenamed m t u → stated_so other others S' u ≡ stated_so names triples S t

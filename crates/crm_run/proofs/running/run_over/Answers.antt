@@ -20,12 +20,12 @@ returns-in-Err-Failed-clause-honest g c = λ honest.
 
 pub returns-in-Ok-clause-report : goal.returns-in-Ok-clause-report
 returns-in-Ok-clause-report g c =
-    records_end_or g.W.Sink.written g.W.Sink.faults g.W.Sink.sure c.args.out.now c.say.new.out c.args.command.now (file_of c.args.command.now) c.in-Ok.archive
+    records_end_or g.W.Sink.written g.W.Sink.faults g.W.Sink.sure c.args.out.now c.say.new.out c.args.command.now (file_of c.args.command.now) c.in-Ok.archive.records
     c.say.result c.say.ensures.report
     (Faulted g.W.Sink.written g.W.Sink.faults g.W.Sink.sure c.args.out.now c.say.new.out (Rose (g.S.Shelf.faults c.args.shelf.now) (g.S.Shelf.faults c.say.new.shelf)) (Some c.args.command.now) c.say.result)
     (g.S.Shelf.files c.args.shelf.now) (rw (c.file_of-file.ensures, c.base_of.ensures) at c.in-Ok.ensures.answer)
 
 pub returns-in-Ok-clause-honest : goal.returns-in-Ok-clause-honest
 returns-in-Ok-clause-honest g c = λ honest.
-    records_end g.W.Sink.written g.W.Sink.faults g.W.Sink.sure c.args.out.now c.say.new.out c.args.command.now (file_of c.args.command.now) c.in-Ok.archive
+    records_end g.W.Sink.written g.W.Sink.faults g.W.Sink.sure c.args.out.now c.say.new.out c.args.command.now (file_of c.args.command.now) c.in-Ok.archive.records
     c.say.result c.say.ensures.report (g.S.Shelf.files c.args.shelf.now) (rw (c.file_of-file.ensures, c.base_of.ensures) at c.in-Ok.ensures.answer)
