@@ -29,3 +29,7 @@ pub new-requires-clause-orders : goal.new-requires-clause-orders
 new-requires-clause-orders c =
     rw (is_dates c, is_list c, c.extents.ensures) (inserted_is_set c.args.set.now.extents c.args.set.now.dates c.args.set.now.list c.conditions.ensures.orders
     (place_of c.args.set.now.dates c.args.t) c.args.t (place_within c.args.set.now.dates c.args.t) (earlier_dates c.args.set.now.dates c.args.t) (later_date c.args.set.now.dates c.args.t c.requires.new))
+
+pub with_place-requires : goal.with_place-requires
+with_place-requires c =
+    omega (arith, c.requires.place, place_within c.args.set.now.dates c.args.t, ap (λ (ts : List ℤ). length ts) (c.as_slice.ensures ∙ c.dates-2.ensures))
