@@ -1,6 +1,5 @@
 -- The relations that are listed as possible are those that some placing has.
 use Rattle.std.proofs.Common.{◌≡◌, true, ◌<◌, ℕ}
-use Rattle.std.specs.Prelude.{◌↔◌}
 use Rattle.std.specs.List.{Contains}
 use Rattle.order_laws.specs.Chains.{HasCycle}
 use Rattle.order_core.specs.Sets.{Orders, IsSet}

@@ -1,17 +1,17 @@
 -- Orders without a cycle, with one order more in front.
-use Rattle.std.proofs.Common.{zero, suc, ◌≡◌, ◌<◌, ◌+◌, ◌*◌, ℕ, ℤ, pos, Bool, true, false, cond, List, [], ◌∷◌, length, arith, inl, inr, refl, subst, ap, sym, ◌∙◌}
-use Rattle.std.specs.Prelude.{◌||◌, ◌⊎◌, slice_index_or}
+use Rattle.std.proofs.Common.{zero, suc, ◌≡◌, ◌<◌, ◌*◌, ℕ, ℤ, Bool, true, false, cond, List, ◌∷◌, length, arith, inl, inr, refl, subst, ap, sym, ◌∙◌}
+use Rattle.std.specs.Prelude.{◌||◌, ◌⊎◌}
 use Rattle.std.proofs.lemmas.Bool.{cases_Bool, true≢false}
 use Rattle.order_laws.specs.declared.Order.{Order}
 use Rattle.order_laws.specs.declared.Point.{Point}
 use Rattle.order_laws.specs.declared.Position.{Position}
 use Rattle.order_laws.specs.declared.Reach.{Reach}
 use Rattle.order_laws.specs.declared.Reach.TheVariants.{None as Nothing, Le, Lt}
-use Rattle.order_laws.specs.Chains.{order_at, HasCycle, Follows}
+use Rattle.order_laws.specs.Chains.{order_at, HasCycle}
 use Rattle.order_laws.specs.Closure.{reach_between, followed_by, stronger}
-use Rattle.order_laws.specs.Placings.{IsSatisfied, IsConsistent, position_at}
-use Rattle.order_laws.specs.Positions.{Stand, IsBefore, IsAtOrBefore}
-use Rattle.order_laws.specs.Tables.{IsPoint, IsOrderSet, IsOrderly, is_known, is_strict, built}
+use Rattle.order_laws.specs.Placings.{IsSatisfied, position_at}
+use Rattle.order_laws.specs.Positions.{Stand}
+use Rattle.order_laws.specs.Tables.{IsPoint, IsOrderSet, IsOrderly, is_known, is_strict}
 use Rattle.order_laws.specs.Wider.{wider, delaying_placing}
 use Rattle.std.proofs.lemmas.Int.{ints}
 use Rattle.order_laws.proofs.Closure.{entry_follows, follows_entry}

@@ -1,5 +1,5 @@
 -- The orders of a relation stand between the boundaries of its extents, and are at most four.
-use Rattle.std.proofs.Common.{◌≡◌, zero, suc, ℕ, ◌<◌, ◌≤◌, ◌+◌, List, [], ◌∷◌, length, arith}
+use Rattle.std.proofs.Common.{zero, suc, ℕ, ◌<◌, ◌≤◌, List, [], ◌∷◌, length, arith}
 use Rattle.order_laws.specs.declared.Order.{Order}
 use Rattle.order_laws.specs.Chains.{order_at}
 use Rattle.order_laws.specs.Tables.{IsPoint}

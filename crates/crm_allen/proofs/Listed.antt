@@ -1,8 +1,7 @@
 -- What a list that was filtered has.
-use Rattle.std.proofs.Common.{zero, suc, ◌≡◌, ◌<◌, ◌+◌, ℕ, Bool, true, false, cond, List, [], ◌∷◌, length, arith, inl, inr, refl, subst, ap, sym, ◌∙◌}
+use Rattle.std.proofs.Common.{zero, suc, ◌≡◌, ◌<◌, ℕ, Bool, true, false, cond, List, [], ◌∷◌, length, arith, refl, subst, ap, sym, ◌∙◌}
 use Rattle.std.specs.Prelude.{slice_index_or, ◌↔◌}
 use Rattle.std.specs.List.{Contains, filter}
-use Rattle.std.proofs.lemmas.Bool.{cases_Bool}
 use Rattle.std.proofs.lemmas.List.Elements.{All-contains, filter_passes}
 use Rattle.crm_allen.specs.declared.relations.Allen.{Allen}
 use Rattle.crm_allen.specs.declared.relations.Allen.TheVariants.{Before, Meets, Overlaps, Finished, Contains as Containing, Starts, Equal, Started, During, Finishes, Overlapped, Met, After}

@@ -1,17 +1,17 @@
 -- A relation is open exactly where it is possible.
-use Rattle.std.proofs.Common.{zero, suc, ◌≡◌, ◌<◌, ◌+◌, ◌*◌, ℕ, ℤ, Bool, true, false, List, [], ◌∷◌, ◌++◌, length, arith, inl, inr, refl, subst, ap, sym, ◌∙◌}
+use Rattle.std.proofs.Common.{suc, ◌≡◌, ◌<◌, ◌*◌, ℕ, ℤ, Bool, true, false, List, [], ◌∷◌, ◌++◌, length, arith, inl, inr, refl, subst, sym}
 use Rattle.std.specs.Prelude.{◌&&◌, ◌⊎◌, not}
-use Rattle.std.proofs.lemmas.Bool.{true≢false, not-true}
+use Rattle.std.proofs.lemmas.Bool.{true≢false}
 use Rattle.std.proofs.lemmas.Int.{ints}
 use Rattle.order_laws.specs.declared.Order.{Order}
 use Rattle.order_laws.specs.declared.Point.{Point}
 use Rattle.order_laws.specs.declared.Point.TheVariants.{Start, End}
 use Rattle.order_laws.specs.declared.Position.{Position}
-use Rattle.order_laws.specs.Chains.{order_at, HasCycle}
+use Rattle.order_laws.specs.Chains.{order_at}
 use Rattle.order_laws.specs.Closure.{reach_between}
 use Rattle.order_laws.specs.Placings.{IsSatisfied, IsConsistent, position_at}
 use Rattle.order_laws.specs.Positions.{Stand}
-use Rattle.order_laws.specs.Tables.{IsOrderSet, is_known, is_strict}
+use Rattle.order_laws.specs.Tables.{is_known, is_strict}
 use Rattle.order_laws.proofs.Closure.{entry_follows}
 use Rattle.order_laws.proofs.Placed.{consistent, follows_always}
 use Rattle.order_extension.proofs.Further.{satisfied_both}
@@ -19,7 +19,7 @@ use Rattle.crm_allen.specs.declared.relations.Allen.{Allen}
 use Rattle.crm_allen.specs.declared.relations.Allen.TheVariants.{Before, Meets, Overlaps, Finished, Contains, Starts, Equal, Started, During, Finishes, Overlapped, Met, After}
 use Rattle.crm_allen.specs.Relations.{assumed, overlaps_orders, finished_orders, contains_orders, relation_orders}
 use Rattle.crm_allen.specs.Possible.{may_be_before, may_be_at, may_overlap, may_be_finished, may_contain, is_open}
-use Rattle.crm_allen.proofs.Growing.{IsLe, IsLt, IsBy, IsAcyclic, IsIn, IsStanding, lt_le, le_before, lt_before, orderly, never_lt, lt_or, satisfied_with, strict_added, level, level_added, is_false}
+use Rattle.crm_allen.proofs.Growing.{IsLe, IsLt, IsAcyclic, IsStanding, lt_le, le_before, lt_before, orderly, never_lt, lt_or, satisfied_with, strict_added, level, level_added}
 
 and_first : (p q : Bool) → (p && q) ≡ true → p ≡ true
 and_first true q h = refl

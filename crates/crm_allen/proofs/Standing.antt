@@ -1,6 +1,5 @@
 -- In a placing two extents have one of the relations.
-use Rattle.std.proofs.Common.{◌≡◌, zero, suc, ◌<◌, ◌+◌, ◌*◌, ℕ, ℤ, Bool, true, false, List, [], ◌∷◌, length, arith, inl, inr, refl, sym, subst}
-use Rattle.std.specs.Prelude.{◌⊎◌, slice_index_or}
+use Rattle.std.proofs.Common.{◌≡◌, zero, suc, ℕ, ℤ, true, false, List, [], ◌∷◌, arith, inl, inr, sym}
 use Rattle.std.specs.List.{Contains}
 use Rattle.std.proofs.lemmas.Bool.{cases_order}
 use Rattle.std.proofs.lemmas.Int.{ints, by_lt_z}
@@ -8,10 +7,8 @@ use Rattle.order_laws.specs.declared.Order.{Order}
 use Rattle.order_laws.specs.declared.Point.{Point}
 use Rattle.order_laws.specs.declared.Point.TheVariants.{Start, End}
 use Rattle.order_laws.specs.declared.Position.{Position}
-use Rattle.order_laws.specs.Chains.{order_at}
 use Rattle.order_laws.specs.Placings.{IsSatisfied, position_at}
 use Rattle.order_laws.specs.Positions.{Stand}
-use Rattle.order_laws.specs.Tables.{IsOrderSet}
 use Rattle.crm_allen.specs.declared.relations.Allen.{Allen}
 use Rattle.crm_allen.specs.declared.relations.Allen.TheVariants.{Before, Meets, Overlaps, Finished, Contains as Containing, Starts, Equal, Started, During, Finishes, Overlapped, Met, After}
 use Rattle.crm_allen.specs.Relations.{assumed, relation_orders}

@@ -1,5 +1,5 @@
 -- Each relation of two extents as orders between their boundaries, and when it is possible.
-use Rattle.std.specs.Prelude.{ℕ, ℤ, Bool, true, false, List, [], ◌∷◌, ◌++◌}
+use Rattle.std.specs.Prelude.{ℕ, Bool, true, false, List, [], ◌∷◌, ◌++◌}
 use Rattle.order_laws.specs.declared.Order.{Order}
 use Rattle.order_laws.specs.declared.Point.{Point}
 use Rattle.order_laws.specs.declared.Point.TheVariants.{Start, End}

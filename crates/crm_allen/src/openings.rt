@@ -1,5 +1,5 @@
 // The relations that a closure leaves open.
-ghost use Rattle.std.specs.Prelude.{◌≡◌, ◌≢◌, ◌<◌, length};
+ghost use Rattle.std.specs.Prelude.{◌≡◌, ◌<◌, ◌&&◌};
 ghost use Rattle.order_laws.specs.Tables.{IsPoint};
 ghost use Rattle.order_core.specs.Sets.{Orders};
 ghost use Rattle.order_closure.specs.Closures.{IsClosureOf};
@@ -35,6 +35,18 @@ fn compare(closure: &Closure, x: Point, y: Point) -> Comparison
     }
 }
 
+fn both(first: bool, second: bool) -> bool
+    ensures { result ≡ (first && second) }
+{
+    first && second
+}
+
+fn all_three(first: bool, second: bool, third: bool) -> bool
+    ensures { result ≡ ((first && second) && third) }
+{
+    first && second && third
+}
+
 /// The relations of extent a to extent b that some placing has, for orders without a cycle.
 ///
 /// A relation is possible as soon as each of its comparisons is: so what follows between the four boundaries decides.
@@ -47,18 +59,27 @@ pub fn possible(closure: &Closure, a: u32, b: u32) -> AllenSet
     let start_start = compare(closure, Point::Start(a), Point::Start(b));
     let end_start = compare(closure, Point::End(a), Point::Start(b));
     let end_end = compare(closure, Point::End(a), Point::End(b));
+    let overlaps = all_three(start_start.before, end_start.after, end_end.before);
+    let finished = both(start_start.before, end_end.at);
+    let contains = both(start_start.before, end_end.after);
+    let starts = both(start_start.at, end_end.before);
+    let equal = both(start_start.at, end_end.at);
+    let started = both(start_start.at, end_end.after);
+    let during = both(start_start.after, end_end.before);
+    let finishes = both(start_start.after, end_end.at);
+    let overlapped = all_three(start_start.after, start_end.before, end_end.after);
     AllenSet {
         before: end_start.before,
         meets: end_start.at,
-        overlaps: start_start.before && end_start.after && end_end.before,
-        finished: start_start.before && end_end.at,
-        contains: start_start.before && end_end.after,
-        starts: start_start.at && end_end.before,
-        equal: start_start.at && end_end.at,
-        started: start_start.at && end_end.after,
-        during: start_start.after && end_end.before,
-        finishes: start_start.after && end_end.at,
-        overlapped: start_start.after && start_end.before && end_end.after,
+        overlaps,
+        finished,
+        contains,
+        starts,
+        equal,
+        started,
+        during,
+        finishes,
+        overlapped,
         met: start_end.at,
         after: start_end.after,
     }

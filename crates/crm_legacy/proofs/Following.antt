@@ -1,16 +1,22 @@
 -- Statements added one block after the other.
-use Rattle.std.proofs.Common.{◌≡◌, ℕ, ◌+◌, List, [], ◌∷◌, ◌++◌, take, drop, Ok, Err, Some, refl, ap, sym, ◌∙◌, append-nil}
+use Rattle.std.proofs.Common.{◌≡◌, ℕ, ◌+◌, List, [], ◌∷◌, ◌++◌, take, drop, Ok, Err, Some, None, refl, ap, sym, subst, ◌∙◌, append-nil}
 use Rattle.std.specs.Prelude.{Result, slice_get, map, flat_map}
 use Rattle.std.proofs.lemmas.List.{map-append, take-append-drop}
 use Rattle.std.proofs.lemmas.Grind.{flat_map-append}
 use Rattle.crm_outside.proofs.Lists.{take_one, drop_one}
 use Rattle.rdf_terms.specs.declared.terms.Refusal.{Refusal}
+use Rattle.rdf_terms.specs.declared.terms.Triple.{Triple}
 use Rattle.rdf_terms.specs.declared.triples.Records.{Records}
 use Rattle.rdf_terms.specs.Naming.{NameLists}
 use Rattle.crm_legacy.specs.declared.gathering.ModernFault.{ModernFault}
 use Rattle.crm_legacy.specs.declared.gathering.ModernFault.TheVariants.{Refused, Memory}
 use Rattle.crm_legacy.specs.Causes.{IsCause}
-use Rattle.crm_legacy.specs.Modern.{Statement, with_statement, with_statements, next_by}
+use Rattle.crm_legacy.specs.Legacies.{legacy_of}
+use Rattle.crm_legacy.specs.Modern.{Statement, iri_text, with_predicate, said, said_by, with_statement, with_statements, next_by}
+
+-- what a triple says whose predicate is no legacy property
+pub said_plainly : (names : NameLists) (t : Triple) (iri : List ℕ) → iri ≡ iri_text names t.p → None ≡ legacy_of iri → said names t ≡ with_predicate t iri ∷ []
+said_plainly names t iri e n = ap (λ (i : List ℕ). said_by t i (legacy_of i)) (sym e) ∙ ap (said_by t iri) (sym n)
 
 module _ (old : NameLists) where
   step : (xs ys : List Statement) → ((q : Records) → with_statements old (xs ++ ys) q ≡ next_by (with_statements old ys) (with_statements old xs q)) →
@@ -28,6 +34,9 @@ module _ (old : NameLists) where
 
   pub alone : (r : Records) (x : Statement) → with_statements old (x ∷ []) r ≡ with_statement old r x
   alone r x = same (with_statement old r x)
+
+  pub cause_alone : (r : Records) (x : Statement) (f : ModernFault) → IsCause (with_statement old r x) f → IsCause (with_statements old (x ∷ []) r) f
+  cause_alone r x f h = subst (λ (s : Result Records Refusal). IsCause s f) (sym (alone r x)) h
 
   -- a block behind others that were added
   pub after : (xs ys : List Statement) (r q : Records) → with_statements old xs r ≡ Ok q → with_statements old (xs ++ ys) r ≡ with_statements old ys q

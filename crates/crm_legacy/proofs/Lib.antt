@@ -1,3 +1,3 @@
-pub mod Counting
 pub mod Following
+pub mod Prefixes
 pub mod Saying

@@ -1,5 +1,5 @@
 // Statements added to records.
-ghost use Rattle.std.specs.Prelude.{◌≡◌, ◌<◌, ◌≤◌, ◌^◌, length, IfOk, OnOk, IfErr, IsErrOf, unwrap_or, slice_get};
+ghost use Rattle.std.specs.Prelude.{◌≡◌, ◌<◌, ◌≤◌, ◌^◌, length, IfOk, OnOk, IfErr, IsErrOf, Ok};
 ghost use Rattle.rdf_terms.specs.declared.names.NameFault.{NameFault};
 ghost use Rattle.rdf_terms.specs.Naming.{iri_number, name_count, with_iri};
 ghost use Rattle.crm_legacy.specs.Modern as spec;
@@ -167,7 +167,7 @@ pub fn add_statement(
     triple: Triple,
     predicate: &str,
 ) -> Result<(), ModernFault>
-    ensures ok { OnOk result (spec.with_statement old.now modern.old (spec.with_predicate triple predicate.now) ≡ Result.Ok modern.new) }
+    ensures ok { OnOk result (spec.with_statement old.now modern.old (spec.with_predicate triple predicate.now) ≡ Ok modern.new) }
     ensures err { IfErr result (IsCause (spec.with_statement old.now modern.old (spec.with_predicate triple predicate.now))) }
 {
     let renamed = match add_names(alloc, old, &mut modern.names, triple, predicate) {

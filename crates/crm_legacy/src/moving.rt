@@ -1,5 +1,5 @@
 // Records with their legacy triples replaced.
-ghost use Rattle.std.specs.Prelude.{◌≡◌, IfOk, OnOk, IfErr, map};
+ghost use Rattle.std.specs.Prelude.{◌≡◌, IfOk, OnOk, IfErr, Ok, map};
 ghost use Rattle.crm_legacy.specs.Causes.{IsCause};
 ghost use Rattle.crm_legacy.specs.Legacies.{direction_iri};
 ghost use Rattle.crm_legacy.specs.Modern as spec;
@@ -20,7 +20,7 @@ fn add_directions(
     turned: bool,
     directions: &[Direction],
 ) -> Result<(), ModernFault>
-    ensures ok { OnOk result (spec.with_statements old.now (map (λ d. spec.with_predicate triple (direction_iri turned d)) directions.now) modern.old ≡ Result.Ok modern.new) }
+    ensures ok { OnOk result (spec.with_statements old.now (map (λ d. spec.with_predicate triple (direction_iri turned d)) directions.now) modern.old ≡ Ok modern.new) }
     ensures err { IfErr result (IsCause (spec.with_statements old.now (map (λ d. spec.with_predicate triple (direction_iri turned d)) directions.now) modern.old)) }
 {
     for direction in directions {
@@ -37,7 +37,7 @@ fn add_said(
     modern: &mut Records,
     triple: Triple,
 ) -> Result<(), ModernFault>
-    ensures ok { OnOk result (spec.with_statements old.now (spec.said old.now triple) modern.old ≡ Result.Ok modern.new) }
+    ensures ok { OnOk result (spec.with_statements old.now (spec.said old.now triple) modern.old ≡ Ok modern.new) }
     ensures err { IfErr result (IsCause (spec.with_statements old.now (spec.said old.now triple) modern.old)) }
 {
     let predicate = predicate_iri(old, triple.p);
@@ -54,7 +54,7 @@ fn add_legacy(
     triple: Triple,
     legacy: Legacy,
 ) -> Result<(), ModernFault>
-    ensures ok { OnOk result (spec.with_statements old.now (spec.said_legacy triple legacy) modern.old ≡ Result.Ok modern.new) }
+    ensures ok { OnOk result (spec.with_statements old.now (spec.said_legacy triple legacy) modern.old ≡ Ok modern.new) }
     ensures err { IfErr result (IsCause (spec.with_statements old.now (spec.said_legacy triple legacy) modern.old)) }
 {
     let directions = replacements(alloc, legacy.property)?;
@@ -71,7 +71,7 @@ fn add_legacy(
 /// The records in today's properties: each triple of P114 to P120 is replaced where it stands by triples with the same
 /// ends and place, which say the same by primitives, and a repeated triple is dropped.
 pub fn modern(alloc: Global, records: &Records) -> Result<Records, ModernFault>
-    ensures ok { IfOk result (λ m. spec.modern_of records.now ≡ Result.Ok m) }
+    ensures ok { IfOk result (λ m. spec.modern_of records.now ≡ Ok m) }
     ensures err { IfErr result (IsCause (spec.modern_of records.now)) }
 {
     let mut modern = Records {

@@ -26,7 +26,10 @@ fn code_of_name(name: &str) -> &str
 fn name_in_crm(iri: &str) -> Option<&str>
     ensures { option_map (λ s. s.now) result ≡ behind crm_space iri.now }
 {
-    iri.strip_prefix(crm_namespace())
+    match iri.strip_prefix(crm_namespace()) {
+        Some(name) => Some(name),
+        None => None,
+    }
 }
 
 /// The legacy property that the IRI names.

@@ -1,10 +1,8 @@
-use Rattle.std.proofs.Common.{◌≡◌, arith, sym, subst, ap, ◌∙◌}
-use Rattle.order_laws.specs.declared.Order.{Order}
+use Rattle.std.proofs.Common.{arith, subst, ap, ◌∙◌}
 use Rattle.order_laws.specs.Chains.{HasCycle}
 use Rattle.order_laws.proofs.Hold.{cycle_refutes}
 use Rattle.order_core.specs.Sets.{Orders}
 use Rattle.order_extension.specs.Extended.{extended}
-use Rattle.crm_allen.specs.Relations.{relation_orders}
 use Rattle.crm_allen.proofs.InRange.{relation_in_range, relation_is_short}
 use Rattle.crm_allen.proofs.examples.example.Goals as goal
 

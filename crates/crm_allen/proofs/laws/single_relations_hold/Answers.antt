@@ -1,7 +1,6 @@
 use Rattle.std.proofs.Common.{subst, sym, List}
 use Rattle.std.specs.List.{Contains}
 use Rattle.order_laws.specs.Placings.{IsSatisfied}
-use Rattle.order_extension.proofs.Further.{satisfied_both}
 use Rattle.crm_allen.specs.declared.relations.Allen.{Allen}
 use Rattle.crm_allen.specs.Possible.{is_open}
 use Rattle.crm_allen.specs.Relations.{relation_orders}
