@@ -1,7 +1,7 @@
 // Suspects.
-ghost use Rattle.std.specs.Prelude.{◌≡◌, ◌<◌, ◌≤◌, ◌^◌, max, length, IfOk};
+ghost use Rattle.std.specs.Prelude.{◌≡◌, ◌<◌, ◌≤◌, ◌^◌, ◌||◌, ℕ, false, max, length, slice_index_or, IfOk};
 ghost use Rattle.std.specs.List.{All};
-ghost use Rattle.order_conflicts.specs.Suspects.{above, triple_bound, suspect_of, suspects_in, is_suspect};
+ghost use Rattle.order_conflicts.specs.Suspects.{above, is_from, triple_bound, suspect_of, suspects_in, is_suspect};
 ghost use Rattle.order_conflicts.specs.Rings.{IsCycle, is_on, AreMarked};
 
 use crate::layers::is_made_by;
@@ -52,6 +52,17 @@ fn triple_bound(orders: &[Order]) -> usize
     bound
 }
 
+// Marks the triple that makes an order.
+fn mark(on: &mut [bool], by: By)
+    requires { above by ≤ length on.old }
+    ensures size { length on.new ≡ length on.old }
+    ensures marks { (t : ℕ) → t < length on.old → slice_index_or on.new t false ≡ (slice_index_or on.old t false || is_from t by) }
+{
+    if let By::Triple(t) = by {
+        on[t as usize] = true;
+    }
+}
+
 // Marks the triples that make orders of a chain.
 fn mark_triples(alloc: Global, orders: &[Order], chain: &[u32]) -> Result<Vec<bool>, AllocError>
     requires { All (λ n. n < length orders.now) chain.now }
@@ -59,10 +70,8 @@ fn mark_triples(alloc: Global, orders: &[Order], chain: &[u32]) -> Result<Vec<bo
 {
     let mut kept = vec![in alloc; false; triple_bound(orders)]?;
     let on = kept.as_mut_slice();
-    for n in chain {
-        if let By::Triple(t) = orders[*n as usize].by {
-            on[t as usize] = true;
-        }
+    for k in 0..chain.len() {
+        mark(on, orders[chain[k] as usize].by);
     }
     Ok(kept)
 }

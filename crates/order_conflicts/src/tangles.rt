@@ -1,5 +1,5 @@
 // Tangles.
-ghost use Rattle.std.specs.Prelude.{◌≡◌, length, map, take, IfOk};
+ghost use Rattle.std.specs.Prelude.{◌≡◌, ◌≤◌, length, map, take, IfOk};
 ghost use Rattle.std.specs.List.{All, filter, list_any};
 ghost use Rattle.order_laws.specs.Closure.{reach_between};
 ghost use Rattle.order_laws.specs.Points.{number_of};
@@ -54,37 +54,42 @@ fn are_tied(analysis: &Analysis, x: Point, y: Point) -> bool
     is_known(analysis.between(x, y)) && is_known(analysis.between(y, x))
 }
 
-fn has_tied(analysis: &Analysis, x: Point, points: &[Point]) -> bool
+// Whether one of the first points is tied to a point.
+fn has_tied(analysis: &Analysis, x: Point, points: &[Point], count: usize) -> bool
     requires x { IsPoint analysis.now.set.extents (length analysis.now.set.dates) x }
-    requires points { All (IsPoint analysis.now.set.extents (length analysis.now.set.dates)) points.now }
-    ensures { result ≡ list_any (spec.are_tied analysis.now.set.list x) points.now }
+    requires count { count ≤ length points.now }
+    requires within { All (IsPoint analysis.now.set.extents (length analysis.now.set.dates)) points.now }
+    ensures { result ≡ list_any (spec.are_tied analysis.now.set.list x) (take count points.now) }
 {
-    for y in points {
-        if are_tied(analysis, x, *y) {
+    for k in 0..count {
+        if are_tied(analysis, x, points[k]) {
             return true;
         }
     }
     false
 }
 
-// Whether a point is the least of a tangle, given the points before it.
-fn is_least(analysis: &Analysis, x: Point, before: &[Point]) -> bool
+// Whether a point is the least of a tangle.
+fn is_least(analysis: &Analysis, x: Point, number: usize, points: &[Point]) -> bool
     requires x { IsPoint analysis.now.set.extents (length analysis.now.set.dates) x }
-    requires before { before.now ≡ take (number_of analysis.now.set.extents x) (all_points analysis.now.set.extents (length analysis.now.set.dates)) }
-    requires within { All (IsPoint analysis.now.set.extents (length analysis.now.set.dates)) before.now }
+    requires number { number_of analysis.now.set.extents x ≡ number }
+    requires count { number ≤ length points.now }
+    requires points { points.now ≡ all_points analysis.now.set.extents (length analysis.now.set.dates) }
+    requires within { All (IsPoint analysis.now.set.extents (length analysis.now.set.dates)) points.now }
     ensures { result ≡ is_least analysis.now.set x }
 {
-    is_looped(analysis, x) && !has_tied(analysis, x, before)
+    is_looped(analysis, x) && !has_tied(analysis, x, points, number)
 }
 
 fn least_points(analysis: &Analysis, points: &[Point]) -> Result<Vec<Point>, AllocError>
     requires points { points.now ≡ all_points analysis.now.set.extents (length analysis.now.set.dates) }
     requires within { All (IsPoint analysis.now.set.extents (length analysis.now.set.dates)) points.now }
-    ensures { IfOk result (λ v. v.items ≡ least_points analysis.now.set) }
+    ensures value { IfOk result (λ v. v.items ≡ least_points analysis.now.set) }
+    ensures within { IfOk result (λ v. All (IsPoint analysis.now.set.extents (length analysis.now.set.dates)) v.items) }
 {
     let mut least = Vec::new(analysis.alloc());
     for k in 0..points.len() {
-        if is_least(analysis, points[k], &points[..k]) {
+        if is_least(analysis, points[k], k, points) {
             least.push(points[k])?;
         }
     }
@@ -95,12 +100,13 @@ fn tied_points(analysis: &Analysis, x: Point, points: &[Point]) -> Result<Vec<Po
     requires x { IsPoint analysis.now.set.extents (length analysis.now.set.dates) x }
     requires points { points.now ≡ all_points analysis.now.set.extents (length analysis.now.set.dates) }
     requires within { All (IsPoint analysis.now.set.extents (length analysis.now.set.dates)) points.now }
-    ensures { IfOk result (λ v. v.items ≡ tied_points analysis.now.set x) }
+    ensures value { IfOk result (λ v. v.items ≡ tied_points analysis.now.set x) }
+    ensures within { IfOk result (λ v. All (IsPoint analysis.now.set.extents (length analysis.now.set.dates)) v.items) }
 {
     let mut tied = Vec::new(analysis.alloc());
-    for y in points {
-        if are_tied(analysis, x, *y) {
-            tied.push(*y)?;
+    for k in 0..points.len() {
+        if are_tied(analysis, x, points[k]) {
+            tied.push(points[k])?;
         }
     }
     Ok(tied)
