@@ -30,7 +30,7 @@ module _ (old new : Found) (p : ℕ) (below : p < length old.seen.items)
   seen_here = ap (λ (l : List Bool). get_or l p false) seen ∙ get_or-set_same old.seen.items p true false below
 
   seen_there : (q : ℕ) → q ≢ p → is_seen new q ≡ is_seen old q
-  seen_there q other = ap (λ (l : List Bool). get_or l q false) seen ∙ get_or-set_other old.seen.items q p true false other
+  seen_there q other = ap (λ (l : List Bool). get_or l q false) seen ∙ get_or-set_other old.seen.items p q true false other
 
   count : length new.reached.items ≡ length old.reached.items + 1
   count = omega (arith, ap length reached, length_push old.reached.items p)
@@ -82,7 +82,7 @@ none_seen (suc n) zero = refl
 none_seen (suc n) (suc p) = none_seen n p
 
 -- a path goes on along an order
-leads_on : (s : Orders) (t x n : ℕ) → IsKept s t n → Leads s t x (low_of s n) → Leads s t x (high_of s n)
+pub leads_on : (s : Orders) (t x n : ℕ) → IsKept s t n → Leads s t x (low_of s n) → Leads s t x (high_of s n)
 leads_on s t x n kept l =
     (l.0 ++ n ∷ [], path_append s t x (low_of s n) (high_of s n) l.0 (n ∷ []) l.1 (kept, refl, refl))
 

@@ -3,6 +3,8 @@ ghost use Rattle.std.specs.Prelude.{◌≡◌, ◌<◌, ◌≤◌, ◌↔◌, �
 ghost use Rattle.order_closure.specs.Edges.{IsEdgesOf};
 ghost use Rattle.chain_certificate.specs.Routes.{points_of};
 ghost use Rattle.order_core.specs.Sets.{Orders};
+ghost use Rattle.order_laws.specs.Chains.{order_at};
+ghost use Rattle.order_conflicts.specs.Suspects as spec;
 ghost use Rattle.order_conflicts.specs.Paths.{IsKept, Leads, high_of, low_of};
 ghost use Rattle.order_conflicts.specs.Found.{IsFound, IsExpanding, IsSearching, Grows, is_seen, room};
 
@@ -41,7 +43,6 @@ fn has(found: &Found, point: u32) -> bool
 }
 
 // Keeps a point that is led to, where it is not kept yet.
-#[tactic(auto, using(crate::proofs::Searching::kept_found))]
 fn keep(found: &mut Found, point: u32) -> Result<(), AllocError>
     requires { point < length found.old.seen.items }
     ensures size { OnOk result (length found.new.seen.items ≡ length found.old.seen.items) }
@@ -57,6 +58,30 @@ fn keep(found: &mut Found, point: u32) -> Result<(), AllocError>
     add(found, point)
 }
 
+// Keeps the point to which an order leads that the triple does not make.
+fn step(set: &OrderSet, triple: u32, found: &mut Found, n: u32) -> Result<(), AllocError>
+    requires kept { IsKept set.now triple n }
+    requires size { length found.old.seen.items ≡ points_of set.now }
+    ensures grows { OnOk result (Grows found.old found.new) }
+    ensures size { OnOk result (length found.new.seen.items ≡ points_of set.now) }
+    ensures seen { OnOk result (is_seen found.new (high_of set.now n) ≡ true) }
+    ensures room { OnOk result (room found.new ≤ room found.old) }
+    ensures found { OnOk result ((from : ℕ) → IsFound set.now triple (points_of set.now) from found.old → Leads set.now triple from (low_of set.now n) →
+        IsFound set.now triple (points_of set.now) from found.new) }
+{
+    let _triple = triple;
+    let ends = ends_of(set, n as usize);
+    keep(found, ends.high)
+}
+
+// Whether the triple makes an order of the set.
+fn makes(set: &OrderSet, triple: u32, n: u32) -> bool
+    requires { n < length set.now.list }
+    ensures { result ≡ spec.is_made_by triple (order_at set.now.list n) }
+{
+    is_made_by(set.orders().as_slice()[n as usize], triple)
+}
+
 // Keeps the point to which an order leads, where the triple does not make the order.
 fn take(set: &OrderSet, triple: u32, found: &mut Found, n: u32) -> Result<(), AllocError>
     requires n { n < length set.now.list }
@@ -68,15 +93,10 @@ fn take(set: &OrderSet, triple: u32, found: &mut Found, n: u32) -> Result<(), Al
     ensures found { OnOk result ((from : ℕ) → IsFound set.now triple (points_of set.now) from found.old → Leads set.now triple from (low_of set.now n) →
         IsFound set.now triple (points_of set.now) from found.new) }
 {
-    set.conditions();
-    let order = set.orders().as_slice()[n as usize];
-    if is_made_by(order, triple) {
+    if makes(set, triple, n) {
         return Ok(());
     }
-    keep(
-        found,
-        number(set.extents(), set.dates().len() as u32, order.high),
-    )
+    step(set, triple, found, n)
 }
 
 // Keeps the points to which the orders of a point lead.

@@ -4,6 +4,9 @@ use Rattle.order_conflicts.specs.Found.{IsSearching}
 use Rattle.order_conflicts.proofs.Searching.{search_more}
 use Rattle.order_conflicts.proofs.leading.search.Goals as goal
 
+pub loop-at-init : goal.loop-at-init
+loop-at-init g c = c.in_ok-found.ensures c.args.triple
+
 pub loop-at-preserved : goal.loop-at-preserved
 loop-at-preserved g c =
     search_more c.args.set.now c.args.triple (points_of c.args.set.now) c.args.from c.loop-at.found c.expand.new.found c.loop-at.at c.loop-at.invariant
