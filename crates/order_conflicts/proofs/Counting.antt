@@ -1,5 +1,5 @@
 -- Numbers that pass a test, one more at a time.
-use Rattle.std.proofs.Common.{zero, suc, ◌≡◌, ℕ, List, [], ◌∷◌, ◌++◌, ◌+◌, ap, arith, ◌∙◌, Bool, cond}
+use Rattle.std.proofs.Common.{zero, suc, ◌≡◌, ℕ, List, [], ◌∷◌, ◌++◌, ◌+◌, ap, sym, arith, ◌∙◌, Bool, cond}
 use Rattle.std.specs.List.{filter, range_with_len}
 use Rattle.std.proofs.lemmas.List.Elements.{filter-append}
 
@@ -14,3 +14,9 @@ pub passing_more : (p : ℕ → Bool) (n : ℕ) → filter p (range_with_len 0 (
 passing_more p n =
     let e : 0 + n ≡ n = omega arith in
     ap (filter p) (range_more n 0 ∙ ap (λ k. range_with_len 0 n ++ k ∷ []) e) ∙ filter-append p (range_with_len 0 n) (n ∷ [])
+
+-- one number more is pushed where it passes
+pub pushed : (p : ℕ → Bool) (n : ℕ) (passes : Bool) (old new : List ℕ) → passes ≡ p n → new ≡ old ++ cond passes (n ∷ []) [] →
+    old ≡ filter p (range_with_len 0 n) → new ≡ filter p (range_with_len 0 (n + 1))
+pushed p n passes old new is e was =
+    e ∙ ap (λ l. l ++ cond passes (n ∷ []) []) was ∙ ap (λ b. filter p (range_with_len 0 n) ++ cond b (n ∷ []) []) is ∙ sym (passing_more p n)

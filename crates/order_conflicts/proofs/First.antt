@@ -21,7 +21,7 @@ ltb_tells a b = elim (leb_tells (suc a) b) [ inl holds ↦ inl (holds.0, omega (
 
 module _ (orders : List Order) where
   -- no point among these has a cycle, or a cycle is the first of theirs
-  pub FirstOf : (Point → Type 0) → Option (List ℕ) → Type 0
+  abbrev pub FirstOf : (Point → Type 0) → Option (List ℕ) → Type 0
   FirstOf among None = (y : Point) → among y → (ms : List ℕ) → IsChain orders y y ms → shows_strict orders ms ≡ true → ⊥
   FirstOf among (Some ns) =
       (x : Point) × (IsFirstChain orders x x true ns
@@ -31,7 +31,7 @@ module _ (orders : List Order) where
   same_start : (x y : Point) (a b : ℕ) (cs ds : List ℕ) → IsChain orders x x (a ∷ cs) → IsChain orders y y (b ∷ ds) → a ≡ b → x ≡ y
   same_start x y a b cs ds v w e = sym v.1.1 ∙ ap (λ n. (order_at orders n).low) e ∙ w.1.1
 
-  head : List ℕ → ℕ
+  abbrev head : List ℕ → ℕ
   head ns = get_or ns 0 0
 
   -- what the comparison tells
@@ -134,8 +134,8 @@ module _ (orders : List Order) where
       ]
 
   widen : (f g : Point → Type 0) (best : Option (List ℕ)) → ((y : Point) → g y → f y) → FirstOf f best → FirstOf g best
-  widen f g None more b = λ y a. b y (more y a)
-  widen f g (Some ns) more b = (b.0, (b.1.0, λ y a. b.1.1 y (more y a)))
+  widen f g None wider b = λ y a. b y (wider y a)
+  widen f g (Some ns) wider b = (b.0, (b.1.0, λ y a. b.1.1 y (wider y a)))
 
   item : (x y : Point) (xs : List Point) → Contains (x ∷ xs) y → (y ≡ x) ⊎ Contains xs y
   item x y xs (zero, h, c) = inl (sym c)

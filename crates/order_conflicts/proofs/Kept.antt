@@ -1,6 +1,6 @@
 -- The orders that a triple doesn't make, by their numbers among all.
 use Rattle.std.proofs.Common.{zero, suc, ◌≡◌, ℕ, List, [], ◌∷◌, ◌++◌, Bool, true, false, not, ◌+◌, ◌*◌, ◌<◌, length, arith, inl, inr, refl, subst, ap, sym, ◌∙◌}
-use Rattle.std.specs.Prelude.{◌||◌}
+use Rattle.std.specs.Prelude.{◌||◌, ◌↔◌}
 use Rattle.std.specs.List.{filter}
 use Rattle.std.proofs.lemmas.Bool.{cases_Bool, true≢false}
 use Rattle.order_laws.specs.declared.Order.{Order}
@@ -158,3 +158,11 @@ module _ (set : Orders) (t : ℕ) where
 
     pub return_of_loop : has_strict_loop (without t set.list) set.extents (length set.dates) ≡ true → (n : ℕ) × IsReturn set t n
     return_of_loop h = cycle_returns ((cycle_decided (without t set.list) set.extents (length set.dates) lows_within).1 h)
+
+    same_if : (a b : Bool) → (a ≡ true → b ≡ true) → (b ≡ true → a ≡ true) → a ≡ b
+    same_if true b f g = sym (f refl)
+    same_if false true f g = g refl
+    same_if false false f g = refl
+
+    pub loop_told : (b : Bool) → (b ≡ true) ↔ ((n : ℕ) × IsReturn set t n) → b ≡ has_strict_loop (without t set.list) set.extents (length set.dates)
+    loop_told b e = same_if b _ (λ h. loop_of_return (e.0 h)) (λ h. e.1 (return_of_loop h))

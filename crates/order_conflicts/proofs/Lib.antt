@@ -9,3 +9,4 @@ pub mod Members
 pub mod Tied
 pub mod First
 pub mod Rings
+pub mod Marking

@@ -73,7 +73,10 @@ range_has (suc n) a (suc k) h =
     subst P same (contains_later a (a + 1 + k) (range_with_len (a + 1) n) (range_has n (a + 1) k (omega arith)))
 
 pub number_among : (n k : ℕ) → k < n → Contains (range_with_len 0 n) k
-number_among n k h = range_has n 0 k h
+number_among n k h =
+    let same : 0 + k ≡ k = omega arith in
+    let P : ℕ → Type 0 = λ z. Contains (range_with_len 0 n) z in
+    subst P same (range_has n 0 k h)
 
 range_below : (n a x : ℕ) → Contains (range_with_len a n) x → x < a + n
 range_below zero a x c = absurd (omega (arith, c.1))
@@ -81,4 +84,4 @@ range_below (suc n) a x (zero, h, c) = omega (arith, c)
 range_below (suc n) a x (suc k, h, c) = omega (arith, range_below n (a + 1) x (k, omega (arith, h), c))
 
 pub among_numbers : (n k : ℕ) → Contains (range_with_len 0 n) k → k < n
-among_numbers n k c = range_below n 0 k c
+among_numbers n k c = omega (arith, range_below n 0 k c)

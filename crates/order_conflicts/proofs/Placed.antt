@@ -10,6 +10,7 @@ use Rattle.order_laws.specs.declared.Point.{Point}
 use Rattle.order_laws.specs.declared.Point.TheVariants.{Start, End, Date}
 use Rattle.order_laws.specs.Chains.{order_at, HasCycle, Follows}
 use Rattle.order_laws.specs.Closure.{has_strict_loop, reach_between}
+use Rattle.order_laws.specs.FirstChains.{IsFirstCycle}
 use Rattle.order_laws.specs.Placings.{IsConsistent}
 use Rattle.order_laws.specs.Tables.{IsPoint, IsOrderSet, is_known}
 use Rattle.order_laws.proofs.Closure.{entry_follows, follows_entry}
@@ -18,8 +19,9 @@ use Rattle.order_core.specs.Sets.{Orders, AreAscending, AreInRange, completed, e
 use Rattle.order_core.proofs.Completed.{completed_is_set}
 use Rattle.order_conflicts.specs.declared.conflicts.Conflicts.{Conflicts}
 use Rattle.order_conflicts.specs.Conflicts.{conflicts_in, conflicts_where}
-use Rattle.order_conflicts.specs.Suspects.{is_made_by, is_suspect, without}
-use Rattle.order_conflicts.specs.Tangles.{are_tied}
+use Rattle.order_conflicts.specs.Rings.{IsCycle}
+use Rattle.order_conflicts.specs.Suspects.{is_made_by, is_suspect, suspects_in, without}
+use Rattle.order_conflicts.specs.Tangles.{are_tied, tangles_in}
 use Rattle.order_conflicts.proofs.Kept.{Among, kept_from}
 
 abbrev extent_order : ℕ → Order
@@ -81,3 +83,16 @@ none_where set false e = refl
 
 pub none_found : (set : Orders) → conflicts_in set ≡ None → has_strict_loop set.list set.extents (length set.dates) ≡ false
 none_found set e = none_where set (has_strict_loop set.list set.extents (length set.dates)) e
+
+-- the cycle that is found
+pub cycle_found : (set : Orders) (ns : List ℕ) → IsFirstCycle set.list set.extents (length set.dates) ns → IsCycle set.list ns
+cycle_found set ns first = (first.point, (first.chain.chain, first.chain.shows refl))
+
+pub conflicts_none : (set : Orders) → IsOrderSet set.list set.extents set.dates → (HasCycle set.list → ⊥) → None ≡ conflicts_in set
+conflicts_none set s none = sym (ap (conflicts_where set) (no_loop_without set.list set.extents set.dates s none))
+
+pub conflicts_some : (set : Orders) (ns : List ℕ) → IsOrderSet set.list set.extents set.dates → IsCycle set.list ns →
+    Some (record { tangles = tangles_in set; suspects = suspects_in set }) ≡ conflicts_in set
+conflicts_some set ns s cycle =
+    let cycles : HasCycle set.list = (cycle.0, (ns, (cycle.1.0, cycle.1.1))) in
+    sym (ap (conflicts_where set) ((cycle_decided set.list set.extents (length set.dates) s.low_in_range).0 cycles))

@@ -1,12 +1,14 @@
 -- A search keeps exactly the points that are led to.
-use Rattle.std.proofs.Common.{zero, suc, ◌≡◌, ◌≢◌, ◌-◌, ℕ, List, [], ◌∷◌, ◌++◌, Bool, true, false, cond, ◌+◌, ◌*◌, ◌<◌, ◌≤◌, length, get_or, set, arith, inl, inr, refl, subst, ap, sym, ◌∙◌, length-set, get_or-set_same, get_or-set_other}
+use Rattle.std.proofs.Common.{zero, suc, ◌≡◌, ◌≢◌, ◌-◌, ℕ, List, [], ◌∷◌, ◌++◌, Bool, true, false, cond, ◌+◌, ◌*◌, ◌<◌, ◌≤◌, length, get_or, set, replicate, arith, inl, inr, refl, subst, ap, sym, ◌∙◌, length-set, get_or-set_same, get_or-set_other}
 use Rattle.std.specs.Prelude.{sum_by}
 use Rattle.std.proofs.lemmas.Bool.{cases_Bool, cases_eq, cases_lt, true≢false}
-use Rattle.std.proofs.lemmas.List.{get_or_append_left, get_or-append_right, length_push}
+use Rattle.std.proofs.lemmas.List.{get_or_append_left, get_or-append_right, length_push, length-replicate}
 use Rattle.std.proofs.lemmas.List.Sums.{sum_by-set}
 use Rattle.order_laws.specs.Points.{number_of}
 use Rattle.order_core.specs.Sets.{Orders}
+use Rattle.order_closure.specs.Edges.{EdgeLists, IsEdgesOf, low_at}
 use Rattle.order_closure.specs.Next.{IsNext}
+use Rattle.order_closure.proofs.Linking.{next_same}
 use Rattle.order_conflicts.specs.declared.leading.Found.{Found}
 use Rattle.order_conflicts.specs.Found.{is_seen, reached_at, IsFound, Grows, AreTaken, room, IsExpanding, IsSearching}
 use Rattle.order_conflicts.specs.Paths.{IsKept, IsPath, Leads, low_of, high_of}
@@ -22,16 +24,13 @@ grows_twice a b c g h = record {
   seen = λ p s. h.seen p (g.seen p s);
 }
 
-abbrev unseen : Bool → ℕ
-unseen b = cond b 0 1
-
-module _ (old new : Found) (p : ℕ) (below : p < length old.seen.items) (fresh : is_seen old p ≡ false)
+module _ (old new : Found) (p : ℕ) (below : p < length old.seen.items)
     (seen : new.seen.items ≡ set old.seen.items p true) (reached : new.reached.items ≡ old.reached.items ++ p ∷ []) where
   seen_here : is_seen new p ≡ true
   seen_here = ap (λ (l : List Bool). get_or l p false) seen ∙ get_or-set_same old.seen.items p true false below
 
   seen_there : (q : ℕ) → q ≢ p → is_seen new q ≡ is_seen old q
-  seen_there q other = ap (λ (l : List Bool). get_or l q false) seen ∙ get_or-set_other old.seen.items q p true false other
+  seen_there q other = ap (λ (l : List Bool). get_or l q false) seen ∙ get_or-set_other old.seen.items p q true false other
 
   count : length new.reached.items ≡ length old.reached.items + 1
   count = omega (arith, ap length reached, length_push old.reached.items p)
@@ -55,16 +54,6 @@ module _ (old new : Found) (p : ℕ) (below : p < length old.seen.items) (fresh 
     ];
   }
 
-  pub kept_room : room new ≤ room old
-  kept_room =
-      omega (
-        arith,
-        count,
-        ap {B = ℕ} (λ (l : List Bool). sum_by unseen l) seen,
-        sum_by-set (λ b. cond b 0 1) old.seen.items p true false below,
-        ap (λ (b : Bool). cond b 0 1) fresh,
-      )
-
   pub kept_found : (set : Orders) (t points from : ℕ) → IsFound set t points from old → Leads set t from p → IsFound set t points from new
   kept_found s t points from f leads = record {
     size = ap length seen ∙ length-set old.seen.items p true ∙ f.size;
@@ -87,8 +76,13 @@ module _ (old new : Found) (p : ℕ) (below : p < length old.seen.items) (fresh 
     ];
   }
 
+none_seen : (n p : ℕ) → get_or (replicate {A = Bool} n false) p false ≡ false
+none_seen zero p = refl
+none_seen (suc n) zero = refl
+none_seen (suc n) (suc p) = none_seen n p
+
 -- a path goes on along an order
-leads_on : (s : Orders) (t x n : ℕ) → IsKept s t n → Leads s t x (low_of s n) → Leads s t x (high_of s n)
+pub leads_on : (s : Orders) (t x n : ℕ) → IsKept s t n → Leads s t x (low_of s n) → Leads s t x (high_of s n)
 leads_on s t x n kept l =
     (l.0 ++ n ∷ [], path_append s t x (low_of s n) (high_of s n) l.0 (n ∷ []) l.1 (kept, refl, refl))
 
@@ -96,8 +90,7 @@ pub taken_grows : (s : Orders) (t p at : ℕ) (a b : Found) → Grows a b → Ar
 taken_grows s t p at a b g taken n l kept low = g.seen (high_of s n) (taken n l kept low)
 
 -- what is expanded holds all that is led to
-module _ (s : Orders) (t points from : ℕ) (f : Found) (of : IsSearching s t points from f (length f.reached.items))
-    (all : (n : ℕ) → IsKept s t n → n < length s.list) where
+module _ (s : Orders) (t points from : ℕ) (f : Found) (of : IsSearching s t points from f (length f.reached.items)) where
   seen_along : (x y : ℕ) (ns : List ℕ) → is_seen f x ≡ true → IsPath s t x y ns → is_seen f y ≡ true
   seen_along x y [] seen path = let P : ℕ → Type 0 = λ z. is_seen f z ≡ true in subst P path seen
   seen_along x y (n ∷ ns) seen path =
@@ -112,3 +105,73 @@ module _ (s : Orders) (t points from : ℕ) (f : Found) (of : IsSearching s t po
   led_where_seen p seen =
       let place = of.found.listed p seen in
       let P : ℕ → Type 0 = λ z. Leads s t from z in subst P place.1.1 (of.found.led place.0 place.1.0)
+
+pub empty_found : (s : Orders) (t points from : ℕ) (f : Found) → f.seen.items ≡ replicate points false → f.reached.items ≡ [] → IsFound s t points from f
+empty_found s t points from f seen reached = record {
+  size = ap length seen ∙ length-replicate points false;
+  within = λ i h. absurd (omega (arith, ap (length {A = ℕ}) reached));
+  led = λ i h. absurd (omega (arith, ap (length {A = ℕ}) reached));
+  listed = λ p e. absurd (true≢false (sym e ∙ ap (λ (l : List Bool). get_or l p false) seen ∙ none_seen points p));
+}
+
+-- the points of a place of the list have been expanded
+pub search_more : (s : Orders) (t points from : ℕ) (old new : Found) (at : ℕ) → IsSearching s t points from old at → at < length old.reached.items →
+    IsExpanding s t points (reached_at old at) old new (length s.list) → IsSearching s t points from new (at + 1)
+search_more s t points from old new at i h e = record {
+  found = e.found from i.found (i.found.led at h);
+  start = e.grows.seen from i.start;
+  within = omega (arith, e.grows.longer);
+  taken = λ j l. elim (cases_lt j at) [
+    | inl less ↦ (let P : ℕ → Type 0 = λ z. AreTaken s t new z (length s.list) in
+        subst P (sym (e.grows.front j (omega arith))) (taken_grows s t (reached_at old j) (length s.list) old new e.grows (i.taken j less)))
+    | inr most ↦ (let same : j ≡ at = omega arith in
+        let P : ℕ → Type 0 = λ z. AreTaken s t new z (length s.list) in
+        subst P (sym (ap (reached_at new) same ∙ e.grows.front at h)) e.taken)
+  ];
+}
+
+-- the orders of a point before the first one that a walk gives
+pub expand_none : (s : Orders) (t points p at : ℕ) (f : Found) → length f.seen.items ≡ points → IsNext (low_of s) (length s.list) p 0 at →
+    IsExpanding s t points p f f at
+expand_none s t points p at f size next = record {
+  within = next.within;
+  begins = next.begins;
+  size = size;
+  grows = grows_none f;
+  taken = λ n l kept low. absurd (next.none_between n (omega arith) l low);
+  smaller = omega arith;
+  found = λ from of leads. of;
+}
+
+-- one order more is taken
+pub expand_more : (s : Orders) (t points p n at : ℕ) (f old new : Found) → IsExpanding s t points p f old n → n < length s.list →
+    IsNext (low_of s) (length s.list) (low_of s n) (n + 1) at →
+    Grows old new → length new.seen.items ≡ points → (IsKept s t n → is_seen new (high_of s n) ≡ true) → room new ≤ room old →
+    ((from : ℕ) → IsFound s t points from old → Leads s t from (low_of s n) → IsFound s t points from new) →
+    IsExpanding s t points p f new at
+expand_more s t points p n at f old new e h next grows size here smaller found =
+    let low : low_of s n ≡ p = e.begins h in
+    record {
+      within = next.within;
+      begins = λ l. next.begins l ∙ low;
+      size = size;
+      grows = grows_twice f old new e.grows grows;
+      taken = λ m l kept is. elim (cases_lt m n) [
+        | inl less ↦ grows.seen (high_of s m) (e.taken m less kept is)
+        | inr most ↦ elim (cases_eq m n) [
+          | inl same ↦ (let P : ℕ → Type 0 = λ z. is_seen new (high_of s z) ≡ true in
+              let Q : ℕ → Type 0 = λ z. IsKept s t z in
+              subst P (sym same) (here (subst Q same kept)))
+          | inr other ↦ absurd (next.none_between m (omega (arith, other)) l (is ∙ sym low))
+        ]
+      ];
+      smaller = omega (arith, e.smaller, smaller);
+      found = λ from of leads. found from (e.found from of leads) (let P : ℕ → Type 0 = λ z. Leads s t from z in subst P (sym low) leads);
+    }
+
+-- what the edges say of low points, the orders say
+pub next_of_set : (s : Orders) (edges : EdgeLists) → IsEdgesOf s edges → (p q from at : ℕ) → q ≡ p → IsNext (low_at edges) (length edges.lows) p from at →
+    IsNext (low_of s) (length s.list) q from at
+next_of_set s edges of p q from at e next =
+    let P : ℕ → Type 0 = λ n. IsNext (low_of s) n q from at in
+    subst P of.count (next_same (low_at edges) (low_of s) (length edges.lows) p q from at (λ m l. sym (of.low m (omega (arith, of.count, l)))) e next)

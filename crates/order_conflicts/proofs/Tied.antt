@@ -64,6 +64,11 @@ first_of p (x ∷ xs) d y c e =
       | inr other ↦ first_later p x xs d y other c e (λ h. first_of p xs d y h e)
     ]
 
+same_at : (xs : List Point) (k : ℕ) (d e : Point) → k < length xs → get_or xs k d ≡ get_or xs k e
+same_at [] k d e h = absurd (omega arith)
+same_at (x ∷ xs) zero d e h = refl
+same_at (x ∷ xs) (suc k) d e h = same_at xs k d e (omega arith)
+
 here : (ns : List ℕ) (k d n : ℕ) → k < length ns → n ≡ get_or ns k d → get_or ns k n ≡ n
 here [] k d n h e = absurd (omega arith)
 here (m ∷ ms) zero d n h e = sym e
@@ -137,7 +142,7 @@ module _ (orders : List Order) where
       )
 
 module _ (set : Orders) (s : IsOrderSet set.list set.extents set.dates) where
-  pub all : List Point
+  abbrev pub all : List Point
   all = all_points set.extents (length set.dates)
 
   -- what makes a point the least of a tangle
@@ -200,7 +205,7 @@ module _ (set : Orders) (s : IsOrderSet set.list set.extents set.dates) where
     found : First (are_tied set.list y) all y
     found = first_of (are_tied set.list y) all y y (point_among set.extents (length set.dates) y in_y) (of_tied set.list y y itself)
 
-    least : Point
+    abbrev least : Point
     least = get_or all found.place y
 
     least_tied : Tied set.list y least
@@ -218,7 +223,7 @@ module _ (set : Orders) (s : IsOrderSet set.list set.extents set.dates) where
 
     least_is_least : Contains (least_points set) least
     least_is_least = is_least_of least (record {
-      in_range = among_points set.extents (length set.dates) least (found.place, found.below, refl);
+      in_range = among_points set.extents (length set.dates) least (found.place, found.below, same_at all found.place least y found.below);
       loops = strict_there set.list least y (tied_back set.list y least least_tied) loop;
       alone = least_alone;
     })

@@ -21,10 +21,13 @@ pub fn find_conflicts(analysis: &Analysis) -> Result<Option<Conflicts>, AllocErr
     ensures { IfOk result (λ o. o ≡ conflicts_in analysis.now.set) }
 {
     computed_cycle_is_first();
-    let Some(cycle) = analysis.cycle() else {
-        return Ok(None);
-    };
-    let tangles = find_tangles(analysis)?;
-    let suspects = find_suspects(analysis, cycle)?;
-    Ok(Some(Conflicts { tangles, suspects }))
+    analysis.set().conditions();
+    match analysis.cycle() {
+        Some(cycle) => {
+            let tangles = find_tangles(analysis)?;
+            let suspects = find_suspects(analysis, cycle)?;
+            Ok(Some(Conflicts { tangles, suspects }))
+        }
+        None => Ok(None),
+    }
 }

@@ -8,6 +8,7 @@ ghost use Rattle.order_conflicts.specs.Paths.{AreLayers, low_of, high_of};
 ghost use Rattle.order_conflicts.specs.Suspects.{is_made_by};
 ghost use Rattle.order_conflicts.specs.Walks.{IsWalk, work_left};
 
+use crate::leading::ends_of;
 use crate::walking::{Mark, Walk, begin, join, leave, meet};
 use order_closure::{Edges, Steps, number};
 use order_core::OrderSet;
@@ -116,29 +117,6 @@ fn components<L: Ledger>(
     Ok(walk.layers)
 }
 
-/// The layers of the ends of an order.
-#[derive(Clone, Copy)]
-pub struct Levels {
-    pub low: u32,
-    pub high: u32,
-}
-
-/// The layers of the ends of an order of the set.
-pub fn levels_of(set: &OrderSet, layers: &[u32], n: usize) -> Levels
-    requires size { length layers.now ≡ points_of set.now }
-    requires in_range { n < length set.now.list }
-    ensures low { result.low ≡ slice_index_or layers.now (low_of set.now n) 0 }
-    ensures high { result.high ≡ slice_index_or layers.now (high_of set.now n) 0 }
-{
-    set.conditions();
-    let extents = set.extents();
-    let dates = set.dates().len() as u32;
-    let order = set.orders().as_slice()[n];
-    let low = layers[number(extents, dates, order.low) as usize];
-    let high = layers[number(extents, dates, order.high) as usize];
-    Levels { low, high }
-}
-
 // Whether no order that the triple does not make leads to a greater layer.
 fn are_layers(set: &OrderSet, layers: &[u32], triple: u32) -> bool
     requires { length layers.now ≡ points_of set.now }
@@ -146,8 +124,10 @@ fn are_layers(set: &OrderSet, layers: &[u32], triple: u32) -> bool
 {
     let orders = set.orders().as_slice();
     for n in 0..orders.len() {
-        let levels = levels_of(set, layers, n);
-        if levels.low < levels.high && !is_made_by(orders[n], triple) {
+        let ends = ends_of(set, n);
+        if layers[ends.low as usize] < layers[ends.high as usize]
+            && !is_made_by(orders[n], triple)
+        {
             return false;
         }
     }

@@ -6,6 +6,7 @@ mod cycles;
 pub mod laws;
 mod layers;
 mod leading;
+mod numbers;
 mod points;
 mod suspects;
 mod tangles;

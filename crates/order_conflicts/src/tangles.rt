@@ -1,5 +1,5 @@
 // Tangles.
-ghost use Rattle.std.specs.Prelude.{◌≡◌, length, map, take, IfOk};
+ghost use Rattle.std.specs.Prelude.{◌≡◌, ◌<◌, ◌≤◌, ◌^◌, length, map, take, IfOk};
 ghost use Rattle.std.specs.List.{All, filter, list_any};
 ghost use Rattle.order_laws.specs.Closure.{reach_between};
 ghost use Rattle.order_laws.specs.Points.{number_of};
@@ -11,6 +11,7 @@ ghost use Rattle.order_conflicts.specs.Tangles.{is_least, is_tied_in, least_poin
 ghost use Rattle.order_conflicts.specs.Tangles as spec;
 
 use crate::cycles::first_cycle;
+use crate::numbers::push_where;
 use crate::points::list_points;
 use chain_certificate::Chain;
 use crm_outside::{Items, Numbers};
@@ -54,37 +55,42 @@ fn are_tied(analysis: &Analysis, x: Point, y: Point) -> bool
     is_known(analysis.between(x, y)) && is_known(analysis.between(y, x))
 }
 
-fn has_tied(analysis: &Analysis, x: Point, points: &[Point]) -> bool
+// Whether one of the first points is tied to a point.
+fn has_tied(analysis: &Analysis, x: Point, points: &[Point], count: usize) -> bool
     requires x { IsPoint analysis.now.set.extents (length analysis.now.set.dates) x }
-    requires points { All (IsPoint analysis.now.set.extents (length analysis.now.set.dates)) points.now }
-    ensures { result ≡ list_any (spec.are_tied analysis.now.set.list x) points.now }
+    requires count { count ≤ length points.now }
+    requires within { All (IsPoint analysis.now.set.extents (length analysis.now.set.dates)) points.now }
+    ensures { result ≡ list_any (spec.are_tied analysis.now.set.list x) (take count points.now) }
 {
-    for y in points {
-        if are_tied(analysis, x, *y) {
+    for k in 0..count {
+        if are_tied(analysis, x, points[k]) {
             return true;
         }
     }
     false
 }
 
-// Whether a point is the least of a tangle, given the points before it.
-fn is_least(analysis: &Analysis, x: Point, before: &[Point]) -> bool
+// Whether a point is the least of a tangle.
+fn is_least(analysis: &Analysis, x: Point, number: usize, points: &[Point]) -> bool
     requires x { IsPoint analysis.now.set.extents (length analysis.now.set.dates) x }
-    requires before { before.now ≡ take (number_of analysis.now.set.extents x) (all_points analysis.now.set.extents (length analysis.now.set.dates)) }
-    requires within { All (IsPoint analysis.now.set.extents (length analysis.now.set.dates)) before.now }
+    requires number { number_of analysis.now.set.extents x ≡ number }
+    requires count { number ≤ length points.now }
+    requires points { points.now ≡ all_points analysis.now.set.extents (length analysis.now.set.dates) }
+    requires within { All (IsPoint analysis.now.set.extents (length analysis.now.set.dates)) points.now }
     ensures { result ≡ is_least analysis.now.set x }
 {
-    is_looped(analysis, x) && !has_tied(analysis, x, before)
+    is_looped(analysis, x) && !has_tied(analysis, x, points, number)
 }
 
 fn least_points(analysis: &Analysis, points: &[Point]) -> Result<Vec<Point>, AllocError>
     requires points { points.now ≡ all_points analysis.now.set.extents (length analysis.now.set.dates) }
     requires within { All (IsPoint analysis.now.set.extents (length analysis.now.set.dates)) points.now }
-    ensures { IfOk result (λ v. v.items ≡ least_points analysis.now.set) }
+    ensures value { IfOk result (λ v. v.items ≡ least_points analysis.now.set) }
+    ensures within { IfOk result (λ v. All (IsPoint analysis.now.set.extents (length analysis.now.set.dates)) v.items) }
 {
     let mut least = Vec::new(analysis.alloc());
     for k in 0..points.len() {
-        if is_least(analysis, points[k], &points[..k]) {
+        if is_least(analysis, points[k], k, points) {
             least.push(points[k])?;
         }
     }
@@ -95,12 +101,13 @@ fn tied_points(analysis: &Analysis, x: Point, points: &[Point]) -> Result<Vec<Po
     requires x { IsPoint analysis.now.set.extents (length analysis.now.set.dates) x }
     requires points { points.now ≡ all_points analysis.now.set.extents (length analysis.now.set.dates) }
     requires within { All (IsPoint analysis.now.set.extents (length analysis.now.set.dates)) points.now }
-    ensures { IfOk result (λ v. v.items ≡ tied_points analysis.now.set x) }
+    ensures value { IfOk result (λ v. v.items ≡ tied_points analysis.now.set x) }
+    ensures within { IfOk result (λ v. All (IsPoint analysis.now.set.extents (length analysis.now.set.dates)) v.items) }
 {
     let mut tied = Vec::new(analysis.alloc());
-    for y in points {
-        if are_tied(analysis, x, *y) {
-            tied.push(*y)?;
+    for k in 0..points.len() {
+        if are_tied(analysis, x, points[k]) {
+            tied.push(points[k])?;
         }
     }
     Ok(tied)
@@ -115,20 +122,29 @@ fn is_tied_in(analysis: &Analysis, x: Point, order: Order) -> bool
     are_tied(analysis, x, order.low) && are_tied(analysis, x, order.high)
 }
 
-#[tactic(auto, using(crate::proofs::Counting::passing_more))]
+// The numbers of the orders whose ends are tied to a point.
+fn tied_numbers(analysis: &Analysis, x: Point, orders: &[Order]) -> Result<Vec<u32>, AllocError>
+    requires x { IsPoint analysis.now.set.extents (length analysis.now.set.dates) x }
+    requires few { length orders.now < 2 ^ 32 }
+    requires in_range { AreInRange analysis.now.set.extents (length analysis.now.set.dates) orders.now }
+    ensures { IfOk result (λ v. v.items ≡ numbers_where (is_tied_in analysis.now.set.list x) orders.now) }
+{
+    let mut tied = Vec::new(analysis.alloc());
+    for n in 0..orders.len() {
+        let passes = is_tied_in(analysis, x, orders[n]);
+        push_where(&mut tied, n as u32, passes)?;
+    }
+    Ok(tied)
+}
+
 fn tied_orders(analysis: &Analysis, x: Point) -> Result<Numbers, AllocError>
     requires { IsPoint analysis.now.set.extents (length analysis.now.set.dates) x }
     ensures { IfOk result (λ v. v ≡ numbers_where (is_tied_in analysis.now.set.list x) analysis.now.set.list) }
 {
-    analysis.set().conditions();
-    let orders = analysis.set().orders().as_slice();
-    let mut tied = Numbers::new(analysis.alloc());
-    for n in 0..orders.len() {
-        if is_tied_in(analysis, x, orders[n]) {
-            tied.push(n as u32)?;
-        }
-    }
-    Ok(tied)
+    let set = analysis.set();
+    set.conditions();
+    let tied = tied_numbers(analysis, x, set.orders().as_slice())?;
+    Ok(Numbers::from_vec(tied))
 }
 
 fn tied_cycle(analysis: &Analysis, x: Point, points: &[Point]) -> Result<Chain, AllocError>
@@ -161,15 +177,15 @@ fn tangles_at(
     analysis: &Analysis,
     least: &[Point],
     points: &[Point],
-) -> Result<Items<Tangle>, AllocError>
+) -> Result<Vec<Tangle>, AllocError>
     requires least { All (IsPoint analysis.now.set.extents (length analysis.now.set.dates)) least.now }
     requires points { points.now ≡ all_points analysis.now.set.extents (length analysis.now.set.dates) }
     requires within { All (IsPoint analysis.now.set.extents (length analysis.now.set.dates)) points.now }
-    ensures { IfOk result (λ ts. ts ≡ map (tangle_at analysis.now.set) least.now) }
+    ensures { IfOk result (λ ts. ts.items ≡ map (tangle_at analysis.now.set) least.now) }
 {
-    let mut tangles = Items::new(analysis.alloc());
-    for x in least {
-        tangles.push(tangle_at(analysis, *x, points)?)?;
+    let mut tangles = Vec::new(analysis.alloc());
+    for k in 0..least.len() {
+        tangles.push(tangle_at(analysis, least[k], points)?)?;
     }
     Ok(tangles)
 }
@@ -182,5 +198,6 @@ pub fn find_tangles(analysis: &Analysis) -> Result<Items<Tangle>, AllocError>
     let dates = analysis.set().dates().len() as u32;
     let points = list_points(analysis.alloc(), analysis.set().extents(), dates)?;
     let least = least_points(analysis, points.as_slice())?;
-    tangles_at(analysis, least.as_slice(), points.as_slice())
+    let tangles = tangles_at(analysis, least.as_slice(), points.as_slice())?;
+    Ok(Items::from_vec(tangles))
 }

@@ -7,24 +7,33 @@ ghost use Rattle.chain_certificate.specs.Routes.{points_of};
 ghost use Rattle.order_conflicts.specs.Paths.{AreLayers, IsKept, IsReturn};
 ghost use Rattle.order_conflicts.specs.Suspects.{without};
 
-use crate::layers::{is_made_by, layers, levels_of};
-use crate::leading::leads_back;
+use crate::layers::{is_made_by, layers};
+use crate::leading::{ends_of, leads_back};
 use order_closure::{Edges, Steps};
 use order_core::OrderSet;
 use std::alloc::{AllocError, Global};
 use std::marker::Brand;
 use std::sync::ledger::{Blank, Ledger};
 
-// Whether an order may be one of a cycle: the triple does not make it, it is strict, and its ends have one layer.
+// Whether the ends of an order have one layer.
+fn is_level(set: &OrderSet, layers: &[u32], triple: u32, n: usize) -> bool
+    requires layers { AreLayers set.now triple (points_of set.now) layers.now }
+    requires n { n < length set.now.list }
+    ensures { result ≡ false → ¬ IsReturn set.now triple n }
+{
+    let ends = ends_of(set, n);
+    layers[ends.low as usize] == layers[ends.high as usize]
+}
+
+// Whether an order may be one of a cycle: it is strict, the triple does not make it, and its ends have one layer.
 fn may_return(set: &OrderSet, layers: &[u32], triple: u32, n: usize) -> bool
     requires layers { AreLayers set.now triple (points_of set.now) layers.now }
     requires n { n < length set.now.list }
-    ensures yes { result ≡ true → IsKept set.now triple n × ((order_at set.now.list n).strict ≡ true) }
-    ensures no { result ≡ false → ¬ IsReturn set.now triple n }
+    ensures may { result ≡ true → IsKept set.now triple n × ((order_at set.now.list n).strict ≡ true) }
+    ensures never { result ≡ false → ¬ IsReturn set.now triple n }
 {
     let order = set.orders().as_slice()[n];
-    let levels = levels_of(set, layers, n);
-    order.strict && levels.low == levels.high && !is_made_by(order, triple)
+    order.strict && !is_made_by(order, triple) && is_level(set, layers, triple, n)
 }
 
 // Whether some strict order that the triple does not make has a way back.
@@ -45,7 +54,7 @@ fn find_return<L: Ledger>(
     let layers = layers(alloc, set, edges, triple, &mut steps)?;
     for n in 0..set.orders().len() {
         if may_return(set, layers.as_slice(), triple, n)
-            && leads_back(alloc, set, edges, triple, n, &mut steps)?
+            && leads_back(alloc, set, edges, triple, ends_of(set, n), &mut steps)?
         {
             return Ok(true);
         }

@@ -3,5 +3,5 @@ use Rattle.std.specs.List.{list_any}
 use Rattle.order_conflicts.specs.Tangles.{are_tied}
 use Rattle.order_conflicts.proofs.tangles.has_tied.Given as goal
 
-abbrev pub invariant-loop-y : goal.invariant-loop-y
-invariant-loop-y l = list_any (are_tied l.analysis.set.list l.x) (take l.y-index l.points) ≡ false
+abbrev pub invariant-loop-k : goal.invariant-loop-k
+invariant-loop-k l = list_any (are_tied l.analysis.set.list l.x) (take l.k l.points) ≡ false

@@ -1,0 +1,22 @@
+use Rattle.std.proofs.Common.{◌<◌, ◌≡◌, ℕ, length, arith, subst}
+use Rattle.chain_certificate.specs.Routes.{points_of}
+use Rattle.order_conflicts.specs.Found.{IsSearching}
+use Rattle.order_conflicts.proofs.Searching.{search_more}
+use Rattle.order_conflicts.proofs.leading.search.Goals as goal
+
+pub loop-at-init : goal.loop-at-init
+loop-at-init g c = c.in_ok-found.ensures c.args.triple
+
+pub loop-at-preserved : goal.loop-at-preserved
+loop-at-preserved g c =
+    search_more c.args.set.now c.args.triple (points_of c.args.set.now) c.args.from c.loop-at.found c.expand.new.found c.loop-at.at c.loop-at.invariant
+    (omega (arith, c.len-in-loop-at.ensures, c.loop-at-test.true)) c.in_ok-expand.ensures
+
+pub loop-at-smaller : goal.loop-at-smaller
+loop-at-smaller g c = omega (arith, c.in_ok-expand.ensures.smaller, c.len-in-loop-at.ensures, c.loop-at-test.true)
+
+pub returns : goal.returns
+returns g c =
+    let P : ℕ → Type 0 = λ k. IsSearching c.args.set.now c.args.triple (points_of c.args.set.now) c.args.from c.loop-at.found k in
+    let done : c.loop-at.at ≡ length c.loop-at.found.reached.items = omega (arith, c.loop-at.invariant.within, c.len-in-loop-at.ensures, c.loop-at-test.false) in
+    subst P done c.loop-at.invariant
