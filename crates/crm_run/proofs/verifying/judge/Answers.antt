@@ -1,5 +1,5 @@
 use Rattle.crm_run.proofs.Verdicts.{accepted_of}
-use Rattle.crm_run.proofs.running.judge.Goals as goal
+use Rattle.crm_run.proofs.verifying.judge.Goals as goal
 
 pub returns-in-Ok-clause-verdict : goal.returns-in-Ok-clause-verdict
 returns-in-Ok-clause-verdict g c =
