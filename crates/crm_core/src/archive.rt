@@ -182,7 +182,7 @@ impl Archive {
 
     /// The names and the triples, taken out.
     pub fn into_records(self) -> Records
-        ensures { result ≡ self }
+        ensures { result ≡ self.records }
     {
         self.records
     }

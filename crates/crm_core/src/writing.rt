@@ -23,7 +23,7 @@ use triple_pool::TriplePool;
 
 // The triples of an archive, each under its number there.
 fn pool_of(alloc: Global, archive: &Archive) -> Result<TriplePool, AllocError>
-    ensures { IfOk result (λ p. p ≡ record { pairs = number_from 0 archive.now.triples; used = length archive.now.triples }) }
+    ensures { IfOk result (λ p. p ≡ record { pairs = number_from 0 archive.now.records.triples; used = length archive.now.records.triples }) }
 {
     TriplePool::build(alloc, &archive.records().triples)
 }

@@ -21,12 +21,13 @@ use Rattle.inference_reports.specs.Reasons.{reason_text, reasons_report}
 use Rattle.report_base.specs.Texts.{check_text, orders_text}
 use Rattle.report_base.proofs.Limits.{within, few_of}
 use Rattle.inference_reports.proofs.Naming.{period_within}
-use Rattle.crm_run.specs.declared.words.Command.{Command}
-use Rattle.crm_run.specs.declared.words.Command.TheVariants.{Orders as OrdersCommand, Check, Reason, Explain, Certify, Verify, Matrix, Convert, Sample}
-use Rattle.crm_run.specs.Headline.{IsTrueReason, IsTrueAnswer, IsReasoned, IsExplained, IsReport, IsSaid, Says, SaysTruly, IsReadTo, answer_at, front_of}
-use Rattle.crm_run.specs.Outcomes.{Outcome, Ends, Faulted}
-use Rattle.crm_run.specs.Report.{command_report, file_report, read_fault_report, records_report, report_over, sample_or, answer_report}
-use Rattle.crm_run.specs.Words.{base_of, file_of, sample_of}
+use Rattle.crm_run.specs.declared.tasks.Query.{Query}
+use Rattle.crm_run.specs.declared.tasks.Query.TheVariants as query
+use Rattle.crm_run.specs.declared.tasks.Task.{Task}
+use Rattle.crm_run.specs.declared.tasks.Task.TheVariants as task
+use Rattle.crm_run.specs.Headline.{IsTrueReason, IsTrueAnswer, IsReasoned, IsExplained, IsReport, IsSaid, Says, SaysTruly, front_of}
+use Rattle.crm_run.specs.Outcomes.{Outcome, Ends, Faulted, IsFaulted}
+use Rattle.crm_run.specs.Report.{answer_of, asked_report, read_fault_report, records_report, report_by}
 
 module _
     (reasons : (set : Orders) (periods front : List ℕ) → IsOrderSet set.list set.extents set.dates → AreExtents set.extents periods →
@@ -82,15 +83,8 @@ module _
     };
   }
 
-  says : (command : Command) (r : Records) → IsReport status → Ends written faults sure a b (records_report command r) status → Says written a b command r
-  says (OrdersCommand base file) r is p = tt
-  says (Check base file) r is p = tt
-  says (Certify base k file) r is p = tt
-  says (Verify base file cert) r is p = tt
-  says (Matrix base file) r is p = tt
-  says (Convert base file) r is p = tt
-  says (Sample n) r is p = tt
-  says (Reason base file) r is p =
+  says : (q : Query) (r : Records) → IsReport status → Ends written faults sure a b (records_report q r) status → Says written a b q r
+  says query.Reason r is p =
       let got = whole (within_limits (findings_from r) (reasons_report r)) is p in
       let few = few_of (findings_from r) (reasons_report r) status (not_refused is) got.0 in
       record {
@@ -98,44 +92,30 @@ module _
         whole = (subst (λ (x : Report). Printed written faults sure a b x.text) (within (findings_from r) (reasons_report r) few.0) got.1).whole;
         said = reasoned r;
       }
-  says (Explain base file left code right) r is p =
+  says (query.Explain left code right) r is p =
       let asked : Report = periods_report r.names (findings_from r) left code right in
       let got = whole (within_limits (findings_from r) asked) is p in
       let few = few_of (findings_from r) asked status (not_refused is) got.0 in
       explained r left code right (period_named r.names (findings_from r).extents left) (period_named r.names (findings_from r).extents right) refl refl is few.1
       (subst (λ (x : Report). Printed written faults sure a b x.text) (within (findings_from r) asked few.0) got.1)
+  says other r is p = tt
 
-  abbrev reported : Command → Option Answer → Option Report
-  reported command None = None
-  reported command (Some x) = answer_report command x
+  faulted : (files : Files) (t : Task) → IsReport status → IsFaulted written faults sure a b files t status → ⊥
+  faulted files t is f = not_read_fault is (whole (read_fault_report f.name) is f.told).0
 
-  told : (command : Command) (r : Records) (o : Option (List ℕ)) → answer_at (base_of command) (file_of command) o ≡ Some (Read r) → IsReport status →
-      Ends written faults sure a b (file_report command (file_of command) o) status → Says written a b command r
-  told command r None e is p = absurd (let never : ⊥ = cc in never)
-  told command r (Some bytes) e is p =
-      says command r is (subst (λ (x : Option Answer). Ends written faults sure a b (reported command x) status) e p)
-
-  -- a sample reads no file
-  over : (command : Command) (r : Records) (n : Option ℕ) → sample_of command ≡ n → (files : Files) → IsReadTo files command r →
-      IsReport status → Ends written faults sure a b (sample_or n (report_over command files)) status → Says written a b command r
-  over command r None e files at is p = told command r (files (file_of command)) at is p
-  over (Sample m) r (Some n) e files at is p = tt
-  over (OrdersCommand base file) r (Some n) e files at is p = tt
-  over (Check base file) r (Some n) e files at is p = tt
-  over (Reason base file) r (Some n) e files at is p = absurd (let never : ⊥ = cc in never)
-  over (Explain base file left code right) r (Some n) e files at is p = absurd (let never : ⊥ = cc in never)
-  over (Certify base k file) r (Some n) e files at is p = tt
-  over (Verify base file cert) r (Some n) e files at is p = tt
-  over (Matrix base file) r (Some n) e files at is p = tt
-  over (Convert base file) r (Some n) e files at is p = tt
-
-  pub headline : (rose : Type 0) (o : Option Files) (command : Option Command) →
-      IfSome o (λ files. Ends written faults sure a b (command_report command files) status ⊎ Faulted written faults sure a b rose command status) →
-      IfSome o (λ files. SaysTruly written a b files command status)
-  headline rose None command p = tt
-  headline rose (Some files) None p = tt
-  headline rose (Some files) (Some command) p = λ r e is.
+  says_truly : (rose : Type 0) (files : Files) (t : Task) →
+      Ends written faults sure a b (asked_report (Some t) files) status ⊎ Faulted written faults sure a b rose files (Some t) status →
+      SaysTruly written a b files (Some t) status
+  says_truly rose files (task.Report base file q) p = λ r e is.
       elim p [
-        | inl ends ↦ over command r (sample_of command) refl files e is ends
-        | inr faulted ↦ absurd (not_read_fault is (whole (read_fault_report (file_of command)) is faulted.1).0)
+        | inl ends ↦ says q r is (subst (λ (x : Option Answer). Ends written faults sure a b (report_by file (records_report q) x) status) e ends)
+        | inr fault ↦ absurd (faulted files (task.Report base file q) is fault.1)
       ]
+  says_truly rose files other p = tt
+
+  pub headline : (rose : Type 0) (o : Option Files) (t : Option Task) →
+      IfSome o (λ files. Ends written faults sure a b (asked_report t files) status ⊎ Faulted written faults sure a b rose files t status) →
+      IfSome o (λ files. SaysTruly written a b files t status)
+  headline rose None t p = tt
+  headline rose (Some files) None p = tt
+  headline rose (Some files) (Some t) p = says_truly rose files t p

@@ -1,7 +1,10 @@
 pub mod Endings
-pub mod Bases
+pub mod Headlines
+pub mod Runs
+pub mod Samples
+pub mod Shapes
+pub mod Soundness
+pub mod Tellings
 pub mod Truths
 pub mod Usages
-pub mod Headlines
 pub mod Verdicts
-pub mod Samples

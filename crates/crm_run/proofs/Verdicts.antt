@@ -15,11 +15,9 @@ use Rattle.crm_core.specs.Files.{Answers, AnswersBytes, is_ntriples}
 use Rattle.report_base.specs.Reports.{Report, Writes, findings_from, within_limits}
 use Rattle.report_base.proofs.Limits.{within, few_of}
 use Rattle.crm_certify.specs.Verdicts.{IsJudgement, WritesVerdict, refusal_report}
-use Rattle.crm_run.specs.declared.words.Command.{Command}
-use Rattle.crm_run.specs.declared.words.Command.TheVariants.{Orders, Check, Reason, Explain, Certify, Verify, Matrix, Convert, Sample}
-use Rattle.crm_run.specs.Headline.{IsReport, IsSaid, IsTrueVerdict, JudgesTruly, SaysVerdict, answer_at}
+use Rattle.crm_run.specs.Headline.{IsReport, IsSaid, IsTrueVerdict}
 use Rattle.crm_run.specs.Outcomes.{Outcome, ended}
-use Rattle.crm_run.specs.Words.{base_of, certificate_of, file_of, sample_of}
+use Rattle.crm_run.specs.Report.{answer_at, answer_of}
 
 no_report : (s : Status) → (s ≡ Done → ⊥) → (s ≡ Findings → ⊥) → IsReport s → ⊥
 no_report s done found is = elim is [ inl d ↦ done d | inr f ↦ found f ]
@@ -111,7 +109,7 @@ module _ {S : Type 0} (written : S → Option (List ℕ)) (faults sure : S → �
       (accepted r cert w h (subst (λ (x : Status). IsReport x) e is))
 
   -- a report of another status
-  other : (p : Report) (s : Status) → IsReport s → Outcome written faults sure a b p s → IsReport p.status
+  pub other : (p : Report) (s : Status) → IsReport s → Outcome written faults sure a b p s → IsReport p.status
   other p s is h =
       elim is [
         | inl d ↦ inl (subst (λ (x : Status). Outcome written faults sure a b p x) d h).0
@@ -128,14 +126,6 @@ module _ {S : Type 0} (written : S → Option (List ℕ)) (faults sure : S → �
   starved r name None = tt
   starved r name (Some files) = λ is. absurd (memory_is_none is)
 
-  -- by the certificate that a command names
-  pub named : (command : Command) (r : Records) (s : Status) (name : Option (List ℕ)) → certificate_of command ≡ name → (o : Option Files) →
-      IfSome name (λ n. IfSome o (λ files. IsReport s → IfSome (files n) (λ bytes. IsSaid written a b (IsTrueVerdict r bytes)))) →
-      IfSome o (λ files. IsReport s → SaysVerdict written a b files (certificate_of command) r)
-  named command r s name e None h = tt
-  named command r s None e (Some files) h = λ is. subst (λ (c : Option (List ℕ)). SaysVerdict written a b files c r) (sym e) tt
-  named command r s (Some n) e (Some files) h = λ is. subst (λ (c : Option (List ℕ)). SaysVerdict written a b files c r) (sym e) (h is)
-
   abbrev records_in : Records → Answer → Records
   records_in r (Refuse code at) = r
   records_in r (Read x) = x
@@ -150,43 +140,14 @@ module _ {S : Type 0} (written : S → Option (List ℕ)) (faults sure : S → �
   same base name x r (Some bytes) told e = ap (records_in x) (sym told ∙ ap (answer_in (Read x)) e)
 
   -- of the records that were read
-  pub over_records : (command : Command) (x : Records) (s : Status) (o : Option Files) → Answers o (base_of command) (file_of command) (Ok x) →
-      IfSome o (λ files. IsReport s → SaysVerdict written a b files (certificate_of command) x) → IfSome o (λ files. JudgesTruly written a b files command s)
-  over_records command x s None told h = tt
-  over_records command x s (Some files) told h = λ r e is.
-      subst (λ (y : Records). SaysVerdict written a b files (certificate_of command) y) (same (base_of command) (file_of command) x r (files (file_of command)) told e) (h is)
+  pub judged_truly : (base : Option (List ℕ)) (file cert : List ℕ) (x : Records) (s : Status) (o : Option Files) → Answers o base file (Ok x) →
+      IfSome o (λ files. IsReport s → IfSome (files cert) (λ bytes. IsSaid written a b (IsTrueVerdict x bytes))) →
+      IfSome o (λ files. (r : Records) → answer_of files base file ≡ Some (Read r) → IsReport s → IfSome (files cert) (λ bytes. IsSaid written a b (IsTrueVerdict r bytes)))
+  judged_truly base file cert x s None told h = tt
+  judged_truly base file cert x s (Some files) told h = λ r e is.
+      subst (λ (y : Records). IfSome (files cert) (λ bytes. IsSaid written a b (IsTrueVerdict y bytes))) (same base file x r (files file) told e) (h is)
 
-  pub no_judgement : (command : Command) (p : Report) (s : Status) → (IsReport p.status → ⊥) → Outcome written faults sure a b p s → (o : Option Files) →
-      IfSome o (λ files. JudgesTruly written a b files command s)
-  no_judgement command p s never h None = tt
-  no_judgement command p s never h (Some files) = λ r e is. absurd (never (other p s is h))
-
-  pub no_memory : (command : Command) (o : Option Files) → IfSome o (λ files. JudgesTruly written a b files command Memory)
-  no_memory command None = tt
-  no_memory command (Some files) = λ r e is. absurd (memory_is_none is)
-
-  no_certificate : (command : Command) (n : ℕ) → sample_of command ≡ Some n → certificate_of command ≡ None
-  no_certificate (Orders base file) n e = refl
-  no_certificate (Check base file) n e = refl
-  no_certificate (Reason base file) n e = refl
-  no_certificate (Explain base file x code y) n e = refl
-  no_certificate (Certify base k file) n e = refl
-  no_certificate (Verify base file cert) n e = absurd (let never : ⊥ = cc in never)
-  no_certificate (Matrix base file) n e = refl
-  no_certificate (Convert base file) n e = refl
-  no_certificate (Sample m) n e = refl
-
-  pub sample_judges : (command : Command) (n : ℕ) → sample_of command ≡ Some n → (s : Status) (o : Option Files) →
-      IfSome o (λ files. JudgesTruly written a b files command s)
-  sample_judges command n e s None = tt
-  sample_judges command n e s (Some files) = λ r at is. subst (λ (c : Option (List ℕ)). SaysVerdict written a b files c r) (sym (no_certificate command n e)) tt
-
-  pub no_command_judges : (o : Option Files) (command : Option Command) → None ≡ command → (s : Status) →
-      IfSome o (λ files. IfSome command (λ c. JudgesTruly written a b files c s))
-  no_command_judges None command e s = tt
-  no_command_judges (Some files) command e s = subst (λ (k : Option Command). IfSome k (λ c. JudgesTruly written a b files c s)) e tt
-
-  pub command_judges : (o : Option Files) (command : Option Command) (c : Command) → Some c ≡ command → (s : Status) →
-      IfSome o (λ files. JudgesTruly written a b files c s) → IfSome o (λ files. IfSome command (λ k. JudgesTruly written a b files k s))
-  command_judges None command c e s h = tt
-  command_judges (Some files) command c e s h = subst (λ (k : Option Command). IfSome k (λ x. JudgesTruly written a b files x s)) e h
+  pub not_judged : (base : Option (List ℕ)) (file cert : List ℕ) (s : Status) (o : Option Files) → (IsReport s → ⊥) →
+      IfSome o (λ files. (r : Records) → answer_of files base file ≡ Some (Read r) → IsReport s → IfSome (files cert) (λ bytes. IsSaid written a b (IsTrueVerdict r bytes)))
+  not_judged base file cert s None never = tt
+  not_judged base file cert s (Some files) never = λ r e is. absurd (never is)

@@ -1,5 +1,5 @@
 -- What a run says of a file is true of every placing.
-use Rattle.std.specs.Prelude.{◌≡◌, ◌≢◌, ◌⊎◌, ◌↔◌, ⊤, ℕ, List, ◌++◌, length, Option, Some, None, IfSome}
+use Rattle.std.specs.Prelude.{◌≡◌, ◌≢◌, ◌⊎◌, ◌↔◌, ⊤, ℕ, List, ◌++◌, length, Option, Some, IfSome}
 use Rattle.std.specs.List.{Contains}
 use Rattle.std.specs.Io.KnownBytes.{Appends}
 use Rattle.rdf_terms.specs.declared.triples.Records.{Records}
@@ -18,21 +18,21 @@ use Rattle.reason_report.specs.Reason.{consistent_text, inconsistent_text}
 use Rattle.order_analysis.specs.Reasons.{reason_of}
 use Rattle.order_core.specs.Sides.{left_point, right_point}
 use Rattle.reason_report.specs.Relations.{relations_of}
-use Rattle.rdf_reading.specs.Answers.{Answer}
 use Rattle.rdf_reading.specs.Answers.Answer.{Read}
 use Rattle.crm_outside.specs.Shelves.{Files}
 use Rattle.inference_reports.specs.declared.asking.Period.{Period}
 use Rattle.report_base.specs.declared.status.Status.{Status}
 use Rattle.report_base.specs.declared.status.Status.TheVariants.{Done, Findings}
 use Rattle.inference_reports.specs.Explained.{period_lines, period_named}
-use Rattle.crm_core.specs.Files.{file_answer, is_ntriples}
 use Rattle.report_base.specs.Reports.{faults_in, findings_from}
 use Rattle.report_base.specs.Texts.{check_text, orders_text}
 use Rattle.certificate_checker.specs.declared.verdicts.Verdict.{Verdict}
 use Rattle.crm_certify.specs.Verdicts.{IsBorneOut, verdict_text}
-use Rattle.crm_run.specs.declared.words.Command.{Command}
-use Rattle.crm_run.specs.declared.words.Command.TheVariants.{Orders as OrdersCommand, Check, Reason, Explain, Certify, Verify, Matrix, Convert, Sample}
-use Rattle.crm_run.specs.Words.{base_of, certificate_of, file_of}
+use Rattle.crm_run.specs.declared.tasks.Query.{Query}
+use Rattle.crm_run.specs.declared.tasks.Query.TheVariants as query
+use Rattle.crm_run.specs.declared.tasks.Task.{Task}
+use Rattle.crm_run.specs.declared.tasks.Task.TheVariants as task
+use Rattle.crm_run.specs.Report.{answer_of}
 
 -- some placing satisfies all orders
 abbrev pub HasPlacing : Orders → Type 0
@@ -98,15 +98,6 @@ pub record IsExplained (r : Records) (a : List ℕ) (p : Primitive) (b : List �
   pub named_right : period_named r.names (findings_from r).extents b ≡ Some right
   pub answer : IsTrueAnswer (findings_from r).orders left.number p right.number (period_lines r.names left right) text
 
--- what the bytes of a name say with a base, where the name is held
-abbrev pub answer_at : Option (List ℕ) → List ℕ → Option (List ℕ) → Option Answer
-answer_at base name None = None
-answer_at base name (Some bytes) = Some (file_answer (is_ntriples name) base bytes)
-
--- the file of a command is read to these records
-abbrev pub IsReadTo : Files → Command → Records → Type 0
-IsReadTo files command r = answer_at (base_of command) (file_of command) (files (file_of command)) ≡ Some (Read r)
-
 -- what `verify` says where it accepts a certificate is true of the records: their orders, types and faults bear out what the verdict claims
 pub record IsTrueVerdict (r : Records) (cert text : List ℕ) : Type 0 where
   pub verdict : Verdict
@@ -124,29 +115,19 @@ module _ {S : Type 0} (written : S → Option (List ℕ)) (old new : S) where
     pub whole : Appends (written old) (written new) text
     pub said : P text
 
-  abbrev pub Says : Command → Records → Type 0
-  Says (OrdersCommand base file) r = ⊤
-  Says (Check base file) r = ⊤
-  Says (Reason base file) r = IsSaid (IsReasoned r)
-  Says (Explain base file a code b) r = IsSaid (IsExplained r a code b)
-  Says (Certify base k file) r = ⊤
-  Says (Verify base file cert) r = ⊤
-  Says (Matrix base file) r = ⊤
-  Says (Convert base file) r = ⊤
-  Says (Sample n) r = ⊤
+  abbrev pub Says : Query → Records → Type 0
+  Says query.Reason r = IsSaid (IsReasoned r)
+  Says (query.Explain a code b) r = IsSaid (IsExplained r a code b)
+  Says other r = ⊤
 
-  -- where the file of a command is read to records and the report was written, it says what is true of them
-  abbrev pub SaysTruly : Files → Option Command → Status → Type 0
-  SaysTruly files None status = ⊤
-  SaysTruly files (Some command) status =
-      (r : Records) → IsReadTo files command r → IsReport status → Says command r
+  -- where a file is read to records and the report on them was written, it says what is true of them
+  abbrev pub SaysTruly : Files → Option Task → Status → Type 0
+  SaysTruly files (Some (task.Report base file q)) status =
+      (r : Records) → answer_of files base file ≡ Some (Read r) → IsReport status → Says q r
+  SaysTruly files other status = ⊤
 
-  -- of the file of a certificate, where it is held
-  abbrev pub SaysVerdict : Files → Option (List ℕ) → Records → Type 0
-  SaysVerdict files None r = ⊤
-  SaysVerdict files (Some cert) r = IfSome (files cert) (λ bytes. IsSaid (IsTrueVerdict r bytes))
-
-  -- where the file of a command is read to records and its certificate is accepted, the verdict is true of them
-  abbrev pub JudgesTruly : Files → Command → Status → Type 0
-  JudgesTruly files command status =
-      (r : Records) → IsReadTo files command r → IsReport status → SaysVerdict files (certificate_of command) r
+  -- where a file is read to records and its certificate is accepted, the verdict is true of them
+  abbrev pub JudgesTruly : Files → Option Task → Status → Type 0
+  JudgesTruly files (Some (task.Verify base file cert)) status =
+      (r : Records) → answer_of files base file ≡ Some (Read r) → IsReport status → IfSome (files cert) (λ bytes. IsSaid (IsTrueVerdict r bytes))
+  JudgesTruly files other status = ⊤

@@ -1,5 +1,6 @@
 -- What a run does to its sink, and how it ends.
-use Rattle.std.specs.Prelude.{◌≡◌, ◌⊎◌, ℕ, List, Option, Some, None, Result, Ok, Err, IfSome, ⊤}
+use Rattle.std.specs.Prelude.{◌≡◌, ◌⊎◌, ℕ, List, [], ◌∷◌, ◌++◌, Option, Some, None, Result, Ok, Err, IfSome, ⊤}
+use Rattle.std.specs.List.{All}
 use Rattle.crm_outside.specs.Printing.{Printed, Broken}
 use Rattle.crm_outside.specs.declared.printing.PrintFault.TheVariants.{Failed, Memory as NoMemory}
 use Rattle.report_base.specs.declared.status.Status.{Status}
@@ -7,15 +8,21 @@ use Rattle.report_base.specs.declared.status.Status.TheVariants.{Done, Findings,
 use Rattle.report_base.specs.declared.status.ReportFault.{ReportFault}
 use Rattle.report_base.specs.declared.status.ReportFault.TheVariants as report
 use Rattle.rdf_terms.specs.declared.triples.Records.{Records}
+use Rattle.rdf_reading.specs.Answers.{Answer}
+use Rattle.rdf_reading.specs.Answers.Answer.{Read}
 use Rattle.boundary_orders.specs.Dossiers.{AreFew}
 use Rattle.crm_outside.specs.Shelves.{Files}
 use Rattle.inference_reports.specs.Explained.{period_named}
 use Rattle.crm_core.specs.Files.{Answers}
+use Rattle.crm_core.specs.declared.faults.ArchiveFault.{ArchiveFault}
+use Rattle.crm_core.specs.declared.faults.ArchiveFault.TheVariants as archive
+use Rattle.record_reports.specs.RecordReports.{refusal_report}
 use Rattle.report_base.specs.Reports.{Report, findings_from}
-use Rattle.crm_run.specs.declared.words.Command.{Command}
-use Rattle.crm_run.specs.declared.words.Command.TheVariants.{Orders, Check, Reason, Explain, Certify, Verify, Matrix, Convert, Sample}
-use Rattle.crm_run.specs.Words.{base_of, file_of}
-use Rattle.crm_run.specs.Report.{read_fault_report}
+use Rattle.crm_run.specs.declared.tasks.Query.{Query}
+use Rattle.crm_run.specs.declared.tasks.Query.TheVariants as query
+use Rattle.crm_run.specs.declared.tasks.Task.{Task}
+use Rattle.crm_run.specs.declared.tasks.Task.TheVariants as task
+use Rattle.crm_run.specs.Report.{answer_of, read_fault_report}
 
 -- the status of a report that was written, or broke off
 abbrev pub ended : Result Status ReportFault → Status
@@ -24,29 +31,45 @@ ended (Err report.Failed) = WriteFault
 ended (Err report.Memory) = Memory
 
 -- in `explain`: over these records, which are within the limits, A or B names no period
-abbrev pub NamesNoPeriod : Command → Records → Type 0
-NamesNoPeriod (Orders base file) r = ⊥
-NamesNoPeriod (Check base file) r = ⊥
-NamesNoPeriod (Reason base file) r = ⊥
-NamesNoPeriod (Explain base file a code b) r =
+abbrev pub NamesNoPeriod : Query → Records → Type 0
+NamesNoPeriod (query.Explain a code b) r =
     AreFew (findings_from r)
     × ((period_named r.names (findings_from r).extents a ≡ None) ⊎ (period_named r.names (findings_from r).extents b ≡ None))
-NamesNoPeriod (Certify base k file) r = ⊥
-NamesNoPeriod (Verify base file cert) r = ⊥
-NamesNoPeriod (Matrix base file) r = ⊥
-NamesNoPeriod (Convert base file) r = ⊥
-NamesNoPeriod (Sample n) r = ⊥
+NamesNoPeriod other r = ⊥
 
--- the file of a command is read to such records
-pub record AsksInVain (files : Option Files) (command : Command) : Type 0 where
+-- the file is read to such records
+pub record AsksInVain (files : Option Files) (base : Option (List ℕ)) (file : List ℕ) (q : Query) : Type 0 where
   pub records : Records
-  pub read : Answers files (base_of command) (file_of command) (Ok records)
-  pub unnamed : NamesNoPeriod command records
+  pub read : Answers files base file (Ok records)
+  pub unnamed : NamesNoPeriod q records
 
 -- the words have no form, or they ask in vain
-abbrev pub IsUsage : Option Files → Option Command → Type 0
+abbrev pub IsUsage : Option Files → Option Task → Type 0
 IsUsage files None = ⊤
-IsUsage files (Some command) = AsksInVain files command
+IsUsage files (Some (task.Report base file q)) = AsksInVain files base file q
+IsUsage files (Some other) = ⊥
+
+-- the files that a task reads, in this order
+abbrev pub files_of : Task → List (List ℕ)
+files_of (task.Report base file q) = file ∷ []
+files_of (task.Verify base file cert) = file ∷ cert ∷ []
+files_of (task.Sample n) = []
+
+abbrev pub base_of : Task → Option (List ℕ)
+base_of (task.Report base file q) = base
+base_of (task.Verify base file cert) = base
+base_of (task.Sample n) = None
+
+abbrev pub IsRead : Option Answer → Type 0
+IsRead (Some (Read r)) = ⊤
+IsRead other = ⊥
+
+-- a file that a task reads, where each before it was read
+pub record IsReached (files : Files) (t : Task) (name : List ℕ) : Type 0 where
+  pub before : List (List ℕ)
+  pub after : List (List ℕ)
+  pub order : files_of t ≡ before ++ (name ∷ after)
+  pub read : All (λ n. IsRead (answer_of files (base_of t) n)) before
 
 module _ {S : Type 0} (written : S → Option (List ℕ)) (faults sure : S → ℕ) (old new : S) where
   -- the whole text at its own status, and a front of it where the sink failed or memory was wanting
@@ -67,7 +90,19 @@ module _ {S : Type 0} (written : S → Option (List ℕ)) (faults sure : S → �
   abbrev pub IsComplete : Report → Status → Type 0
   IsComplete r status = (status ≡ Memory) ⊎ ((status ≡ r.status) × Printed written faults sure old new r.text)
 
-  -- where the shelf's count rose: the line of a read fault, with the file that the words name
-  abbrev pub Faulted : Type 0 → Option Command → Status → Type 0
-  Faulted rose None status = ⊥
-  Faulted rose (Some command) status = rose × Outcome (read_fault_report (file_of command)) status
+  -- the line of a read fault, with a file that the task reached
+  pub record IsFaulted (files : Files) (t : Task) (status : Status) : Type 0 where
+    pub name : List ℕ
+    pub reached : IsReached files t name
+    pub told : Outcome (read_fault_report name) status
+
+  -- so it is where the shelf's count rose
+  abbrev pub Faulted : Type 0 → Files → Option Task → Status → Type 0
+  Faulted rose files None status = ⊥
+  Faulted rose files (Some t) status = rose × IsFaulted files t status
+
+  -- why a file was not read; where memory was wanting nothing is printed, which is a front of every text
+  abbrev pub IsTold : List ℕ → ArchiveFault → Status → Type 0
+  IsTold name (archive.Refused f) status = Outcome (refusal_report f) status
+  IsTold name archive.Failed status = Outcome (read_fault_report name) status
+  IsTold name archive.Memory status = (status ≡ Memory) × ((r : Report) → Outcome r status)

@@ -8,6 +8,6 @@ use Rattle.crm_core.proofs.writing.write_check.Goals as goal
 
 pub returns : goal.returns
 returns g c =
-    subst (λ (r : Report). Writes g.W.Sink.written g.W.Sink.faults g.W.Sink.sure c.args.out.now c.report_check.new.out r c.report_check.result) (check_of_records c.args.archive.now)
-    (subst (λ (p : Numbered). Writes g.W.Sink.written g.W.Sink.faults g.W.Sink.sure c.args.out.now c.report_check.new.out (check_of c.args.archive.now.names p.pairs) c.report_check.result) c.in_ok-pool.ensures
+    subst (λ (r : Report). Writes g.W.Sink.written g.W.Sink.faults g.W.Sink.sure c.args.out.now c.report_check.new.out r c.report_check.result) (check_of_records c.args.archive.now.records)
+    (subst (λ (p : Numbered). Writes g.W.Sink.written g.W.Sink.faults g.W.Sink.sure c.args.out.now c.report_check.new.out (check_of c.args.archive.now.records.names p.pairs) c.report_check.result) c.in_ok-pool.ensures
     (subst (λ (r : Records). Writes g.W.Sink.written g.W.Sink.faults g.W.Sink.sure c.args.out.now c.report_check.new.out (check_of r.names c.in_ok-pool.pool.pairs) c.report_check.result) c.records.ensures c.report_check.ensures))

@@ -7,5 +7,5 @@ use Rattle.crm_core.proofs.writing.write_explain.Goals as goal
 
 pub returns : goal.returns
 returns g c =
-    subst (λ (p : Numbered). Writes g.W.Sink.written g.W.Sink.faults g.W.Sink.sure c.args.out.now c.report_explain.new.out (explain_of c.args.archive.now.names p.pairs c.args.a.now c.args.p c.args.b.now) c.report_explain.result) c.in_ok-pool.ensures
+    subst (λ (p : Numbered). Writes g.W.Sink.written g.W.Sink.faults g.W.Sink.sure c.args.out.now c.report_explain.new.out (explain_of c.args.archive.now.records.names p.pairs c.args.a.now c.args.p c.args.b.now) c.report_explain.result) c.in_ok-pool.ensures
     (subst (λ (r : Records). Writes g.W.Sink.written g.W.Sink.faults g.W.Sink.sure c.args.out.now c.report_explain.new.out (explain_of r.names c.in_ok-pool.pool.pairs c.args.a.now c.args.p c.args.b.now) c.report_explain.result) c.records.ensures c.report_explain.ensures)

@@ -1,7 +1,7 @@
 use Rattle.std.proofs.Common.{◌∙◌, subst, List, ℕ}
 use Rattle.crm_run.specs.Outcomes.{Outcome}
 use Rattle.report_base.specs.declared.status.Status.TheVariants.{ReadFault}
-use Rattle.crm_run.proofs.running.print_read_fault.Goals as goal
+use Rattle.crm_run.proofs.telling.print_read_fault.Goals as goal
 
 pub returns-in-Ok : goal.returns-in-Ok
 returns-in-Ok g c =
