@@ -6,7 +6,7 @@ use Rattle.crm_run.proofs.reporting.run_report.Goals as goal
 pub returns-in-Ok : goal.returns-in-Ok
 returns-in-Ok g c =
     rw c.ended.ensures
-    (report_run g.W.Sink.written g.W.Sink.faults g.W.Sink.sure c.args.out.now c.write_report.new.out _ _ _ c.args.base.now c.args.file.now c.in-Ok.archive
+    (report_run g.W.Sink.written g.W.Sink.faults g.W.Sink.sure c.args.out.now c.write_report.new.out _ _ _ c.args.base.now c.args.file.now c.in-Ok.archive.records
     (rw c.text_in.ensures at c.in-Ok.ensures.answer) c.args.query.now c.write_report.result c.write_report.ensures.report c.write_report.ensures.ending
     c.write_report.ensures.usage c.write_report.ensures.failed)
 

@@ -11,7 +11,7 @@ returns-in-Err g c =
 
 pub returns-in-Ok : goal.returns-in-Ok
 returns-in-Ok g c =
-    verify_run g.W.Sink.written g.W.Sink.faults g.W.Sink.sure c.args.out.now c.judge.new.out _ _ _ c.args.base.now c.args.file.now c.in-Ok.archive
+    verify_run g.W.Sink.written g.W.Sink.faults g.W.Sink.sure c.args.out.now c.judge.new.out _ _ _ c.args.base.now c.args.file.now c.in-Ok.archive.records
     (rw c.text_in.ensures at c.in-Ok.ensures.answer) c.args.cert.now c.judge.result c.judge.ensures.usage
     (λ e. let rose = c.judge.ensures.read e in let later = c.in-Ok.ensures.later in omega (arith, rose, later)) c.judge.ensures.write
     (rw c.in-Ok.ensures.files at c.judge.ensures.verdict)
