@@ -13,6 +13,7 @@ use crm_core::{
     Archive, ReportFault, Status, write_certificate, write_check, write_convert, write_explain,
     write_matrix, write_orders, write_reason,
 };
+use crm_extra::{write_bounds, write_conflicts};
 use crm_outside::{Shelf, Sink, Text};
 use std::alloc::Global;
 
@@ -39,6 +40,8 @@ fn write_report<W: Sink>(
         Query::Certify { kind } => write_certificate(alloc, archive, *kind, out),
         Query::Matrix => write_matrix(alloc, archive, out),
         Query::Convert => write_convert(alloc, archive, out),
+        Query::Bounds => write_bounds(alloc, archive, out),
+        Query::Conflicts => write_conflicts(alloc, archive, out),
     }
 }
 

@@ -22,6 +22,8 @@ pub enum CommandName {
     Verify,
     Matrix,
     Convert,
+    Bounds,
+    Conflicts,
     Sample,
 }
 
@@ -37,6 +39,8 @@ fn command_named(word: &str) -> Option<CommandName>
         "verify" => Some(CommandName::Verify),
         "matrix" => Some(CommandName::Matrix),
         "convert" => Some(CommandName::Convert),
+        "bounds" => Some(CommandName::Bounds),
+        "conflicts" => Some(CommandName::Conflicts),
         "sample" => Some(CommandName::Sample),
         _ => None,
     }
@@ -136,6 +140,8 @@ fn file_command(name: CommandName, base: Option<Text>, file: Text) -> Option<Com
         CommandName::Reason => Some(Command::Reason { base, file }),
         CommandName::Matrix => Some(Command::Matrix { base, file }),
         CommandName::Convert => Some(Command::Convert { base, file }),
+        CommandName::Bounds => Some(Command::Bounds { base, file }),
+        CommandName::Conflicts => Some(Command::Conflicts { base, file }),
         _ => None,
     }
 }
@@ -282,7 +288,9 @@ fn form(
         | CommandName::Check
         | CommandName::Reason
         | CommandName::Matrix
-        | CommandName::Convert => file_form(alloc, name, base, words),
+        | CommandName::Convert
+        | CommandName::Bounds
+        | CommandName::Conflicts => file_form(alloc, name, base, words),
     }
 }
 
