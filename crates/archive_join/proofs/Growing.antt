@@ -4,8 +4,8 @@ use Rattle.rdf_terms.specs.declared.terms.Refusal.{Refusal}
 use Rattle.rdf_terms.specs.declared.terms.Triple.{Triple}
 use Rattle.rdf_terms.specs.declared.triples.Records.{Records}
 use Rattle.rdf_terms.specs.Naming.{NameLists, name_count, has_iri, has_literal}
-use Rattle.rdf_terms.specs.Terms.{is_held, with_triple}
-use Rattle.archive_join.specs.Values.{Value, ValueTriple, AreFew, IsPast, IsFirstPast, names_with, names_with_three, with_values, with_all}
+use Rattle.rdf_terms.specs.Terms.{is_held, with_triple, triple_of}
+use Rattle.archive_join.specs.Values.{Value, ValueTriple, AreFew, IsPast, IsFirstPast, names_with, names_with_three, terms_of, with_values, with_all}
 use Rattle.archive_join.specs.Values.Value.{Iri, Blank, Lit}
 use Rattle.archive_join.proofs.Renumbering.{with_new}
 
@@ -35,7 +35,7 @@ all_grow r (x ∷ xs) =
     let rest = all_grow (with_values r x) xs in
     record {
       names = omega (arith, three_names r.names x, rest.names);
-      triples = omega (arith, more_triples r.triples _, rest.triples);
+      triples = omega (arith, more_triples r.triples (triple_of (terms_of r.names x, x.at)), rest.triples);
     }
 
 with_all_append : (r : Records) (xs ys : List ValueTriple) → with_all r (xs ++ ys) ≡ with_all (with_all r xs) ys
