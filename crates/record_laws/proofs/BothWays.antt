@@ -73,9 +73,10 @@ follows_goes r q m back s a b ha hb i j strict f =
 pub follows_alike : (r q : Records) (m back : Term → Term) → Same r q m back → (a b : Term) → is_numbered (findings_from r).extents a ≡ true → is_numbered (findings_from r).extents b ≡ true → (i j strict : Bool)
     → Follows (findings_from r).orders.list (boundary i (extent_number (findings_from r).extents a)) (boundary j (extent_number (findings_from r).extents b)) strict
     ↔ Follows (findings_from q).orders.list (boundary i (extent_number (findings_from q).extents (m a))) (boundary j (extent_number (findings_from q).extents (m b))) strict
-follows_alike r q m back s a b ha hb i j strict =
-    (follows_goes r q m back s a b ha hb i j strict,
-     λ f. subst (λ (x : Term). Follows (findings_from r).orders.list (boundary i (extent_number (findings_from r).extents x)) (boundary j (extent_number (findings_from r).extents b)) strict) (s.renaming.forth_and_back a)
-       (subst (λ (y : Term). Follows (findings_from r).orders.list (boundary i (extent_number (findings_from r).extents (back (m a)))) (boundary j (extent_number (findings_from r).extents y)) strict) (s.renaming.forth_and_back b)
-       (follows_goes q r back m (turned r q m back s) (m a) (m b)
-         (numbered_same r.names q.names r.triples q.triples m (one r q m back s) a ∙ ha) (numbered_same r.names q.names r.triples q.triples m (one r q m back s) b ∙ hb) i j strict f)))
+follows_alike r q m back s a b ha hb i j strict = (
+  follows_goes r q m back s a b ha hb i j strict,
+  λ f. subst (λ (x : Term). Follows (findings_from r).orders.list (boundary i (extent_number (findings_from r).extents x)) (boundary j (extent_number (findings_from r).extents b)) strict) (s.renaming.forth_and_back a)
+      (subst (λ (y : Term). Follows (findings_from r).orders.list (boundary i (extent_number (findings_from r).extents (back (m a)))) (boundary j (extent_number (findings_from r).extents y)) strict) (s.renaming.forth_and_back b)
+      (follows_goes q r back m (turned r q m back s) (m a) (m b)
+      (numbered_same r.names q.names r.triples q.triples m (one r q m back s) a ∙ ha) (numbered_same r.names q.names r.triples q.triples m (one r q m back s) b ∙ hb) i j strict f)),
+)

@@ -43,5 +43,5 @@ module _ (names other : NameLists) (triples others : List Triple) (m : Term → 
   pub kinds_same : (t u : Triple) → IsRenamed m t u → kinds_of other (number_from 0 others) u ≡ kinds_of names (number_from 0 triples) t
   kinds_same t u r =
       ap (λ (o : OwnFaults). kinds o (has_a1 other (declared_in other (number_from 0 others)) (parts_in other (number_from 0 others)) u))
-        (own_same names other m same.renaming (declared_in names (number_from 0 triples)) (declared_in other (number_from 0 others)) (declared_same names other m same.renaming triples others same) t u r)
+      (own_same names other m same.renaming (declared_in names (number_from 0 triples)) (declared_in other (number_from 0 others)) (declared_same names other m same.renaming triples others same) t u r)
       ∙ ap (λ (b : Bool). kinds (own_faults names (declared_in names (number_from 0 triples)) t) b) (a1_same t u r)

@@ -159,7 +159,7 @@ module _ (names other : NameLists) (triples others : List Triple) (m : Term → 
     with_same (Once f) (Once t) (Once k) (Once f') (Once t') (Once k') rf rt rk =
         when_same (is_sound (own_faults names d f) && is_sound (own_faults names d t)) (is_sound (own_faults other e f') && is_sound (own_faults other e t')) _ _
         (ap (λ (x : OwnFaults). is_sound x && is_sound (own_faults other e t')) (own_same names other m same.renaming d e declared f f' rf)
-         ∙ ap (λ (x : OwnFaults). is_sound (own_faults names d f) && is_sound x) (own_same names other m same.renaming d e declared t t' rt))
+        ∙ ap (λ (x : OwnFaults). is_sound (own_faults names d f) && is_sound x) (own_same names other m same.renaming d e declared t t' rt))
         (ap (λ (o : Option Prop). relation_by f' t' o) (property_same names other m same.renaming k.o k'.o rk.o) ∙ by_same f f' t t' (property_of names k.o) rf rt)
     with_same Absent t k Absent t' k' rf rt rk = refl
     with_same Repeated t k Repeated t' k' rf rt rk = refl
