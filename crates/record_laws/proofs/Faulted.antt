@@ -10,7 +10,7 @@ use Rattle.crm_type_check.specs.declared.own.OwnFaults.{OwnFaults}
 use Rattle.crm_type_check.specs.declared.relation.Relation.{Relation}
 use Rattle.crm_type_check.specs.Meaning.{makes_relation}
 use Rattle.crm_type_check.specs.Faults.{declared_in, own_faults}
-use Rattle.crm_type_check.specs.Relations.{has_property, occurrence, parts_in, relation_of, relation_with, relation_by_parts, has_a1, kinds, kinds_of}
+use Rattle.crm_type_check.specs.Relations.{has_property, occurrence, parts_in, relation_of, has_a1, kinds, kinds_of}
 use Rattle.record_laws.specs.Renaming.{IsRenamed, renamed_relation}
 use Rattle.record_laws.proofs.OneWay.{OneWay}
 use Rattle.record_laws.proofs.Members.{map_numbered}

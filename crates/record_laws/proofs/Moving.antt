@@ -1,8 +1,8 @@
 -- The orders of two archives that say the same are the same, but for the numbers of extents.
-use Rattle.std.proofs.Common.{◌≡◌, ℕ, zero, suc, ℤ, ◌+◌, ◌<◌, ◌-◌, ◌⊎◌, inl, inr, Bool, true, false, true≢false, ◌&&◌, ◌||◌, not, cond, Option, Some, None, is_some, List, [], ◌∷◌, ◌++◌, length, get_or, map, filter, refl, sym, ap, subst, ◌∙◌, arith}
+use Rattle.std.proofs.Common.{◌≡◌, ℕ, zero, suc, ℤ, ◌+◌, ◌<◌, ◌-◌, ◌⊎◌, inl, inr, Bool, true, false, true≢false, ◌||◌, not, cond, Option, Some, None, List, [], ◌∷◌, ◌++◌, length, get_or, map, filter, refl, sym, ap, subst, ◌∙◌, arith}
 use Rattle.std.specs.Prelude.{◌<ℤ◌}
 use Rattle.std.specs.Option.{option_map}
-use Rattle.std.specs.List.{list_any, list_all, filter_map, flat_map, cons_option, fold, position_or_len, AllByRecursion, All}
+use Rattle.std.specs.List.{list_any, list_all, filter_map, flat_map, cons_option, fold, position_or_len, AllByRecursion}
 use Rattle.std.specs.List.Sorted.{IsStrictlySortedBy}
 use Rattle.std.specs.Ordering.{int_cmp, match_ordering}
 use Rattle.std.specs.BTreeSet.{insert_key}
@@ -20,24 +20,23 @@ use Rattle.rdf_terms.specs.Naming.{NameLists}
 use Rattle.rdf_terms.proofs.TermLemmas.{same_term-true, same_term-refl}
 use Rattle.triple_pool.specs.Pool.{number_from}
 use Rattle.crm_type_check.specs.declared.Fault.{Fault}
-use Rattle.crm_type_check.specs.declared.FaultKind.{FaultKind}
 use Rattle.crm_type_check.specs.Meaning.{passes}
 use Rattle.crm_type_check.specs.Relations.{kinds_of, faults_of}
 use Rattle.order_laws.specs.declared.Point.{Point}
 use Rattle.order_laws.specs.declared.Point.TheVariants.{Start, End, Date}
 use Rattle.order_laws.specs.declared.By.TheVariants.{Extent, Dates}
 use Rattle.order_laws.specs.declared.Order.{Order}
-use Rattle.order_core.specs.Sets.{extent_orders, date_orders, completed}
+use Rattle.order_core.specs.Sets.{extent_orders, date_orders}
 use Rattle.boundary_orders.specs.declared.statements.Statement.{Statement}
 use Rattle.boundary_orders.specs.Statements.{is_faulty, is_dated, meaning_of, statement_of, statements_of}
 use Rattle.boundary_orders.specs.Extents.{distinct, ends_in, kind_of, standings_of, extents_of}
-use Rattle.boundary_orders.specs.Orders.{Spot, DomainStart, DomainEnd, RangeStart, RangeEnd, TheDate, Rule, rules_of, point_at, order_by, extent_number, is_numbered, AreNumbered, date_number, instant_in, instant_of, dates_of, range_number, orders_with, orders_by, statement_orders, orders_of}
+use Rattle.boundary_orders.specs.Orders.{Spot, DomainStart, DomainEnd, RangeStart, RangeEnd, TheDate, Rule, rules_of, point_at, order_by, extent_number, is_numbered, AreNumbered, date_number, instant_in, instant_of, dates_of, orders_with, orders_by, statement_orders, orders_of}
 use Rattle.boundary_orders.proofs.Ruling.{spot_fits, rule_fits, rules_fit}
 use Rattle.boundary_orders.proofs.Within.{place_within, extents_cover}
 use Rattle.report_base.proofs.DatesSorted.{ascending}
 use Rattle.record_laws.specs.Renaming.{IsRenamed, renamed_statement}
-use Rattle.record_laws.proofs.OneWay.{OneWay, same_bool}
-use Rattle.record_laws.proofs.Members.{In, any_in, in_any, any_same, any_numbered, goes, comes}
+use Rattle.record_laws.proofs.OneWay.{OneWay}
+use Rattle.record_laws.proofs.Members.{In, any_in, any_same, any_numbered, goes, comes}
 use Rattle.record_laws.proofs.Faulted.{kinds_same}
 use Rattle.record_laws.proofs.Standing.{some_kind, faulty_is, any_flat, any_filtered, meaning_same, kind_same}
 use Rattle.record_laws.proofs.Walking.{at_in, in_at, in_left, in_right, in_either, IsMoved, Become}

@@ -1,13 +1,12 @@
 -- Full relations.
-use Rattle.std.proofs.Common.{◌≡◌, ℕ, ◌⊎◌, inl, inr, Bool, true, false, true≢false, ◌&&◌, cond, Option, Some, None, is_some, List, [], ◌∷◌, filter, refl, sym, ap, subst, ◌∙◌}
+use Rattle.std.proofs.Common.{◌≡◌, ℕ, inl, inr, Bool, true, false, true≢false, ◌&&◌, cond, Option, Some, None, List, [], ◌∷◌, filter, refl, sym, ap, subst, ◌∙◌}
 use Rattle.std.specs.Prelude.{◌==◌, ⊤}
 use Rattle.std.specs.Option.{option_map}
-use Rattle.std.specs.List.{list_any, IsDistinct, AllByRecursion}
+use Rattle.std.specs.List.{IsDistinct, AllByRecursion}
 use Rattle.rdf_terms.specs.declared.terms.Term.{Term}
 use Rattle.rdf_terms.specs.declared.terms.Triple.{Triple}
 use Rattle.rdf_terms.specs.Terms.{same_term, same_terms}
 use Rattle.rdf_terms.specs.Naming.{NameLists}
-use Rattle.rdf_terms.proofs.TermLemmas.{same_terms-true}
 use Rattle.crm_properties.specs.declared.Prop.{Prop}
 use Rattle.crm_properties.specs.PropertyNumbers.{is_typed_relation}
 use Rattle.crm_type_check.specs.declared.own.OwnFaults.{OwnFaults}
@@ -18,7 +17,7 @@ use Rattle.crm_type_check.specs.Meaning.{passes, property_of}
 use Rattle.crm_type_check.specs.Faults.{Declared, own_faults, is_sound}
 use Rattle.crm_type_check.specs.Relations.{has_property, occurrence, relation_by, relation_with}
 use Rattle.record_laws.specs.Renaming.{IsRenamed, renamed_relation}
-use Rattle.record_laws.proofs.OneWay.{Renames, OneWay}
+use Rattle.record_laws.proofs.OneWay.{OneWay}
 use Rattle.record_laws.proofs.Members.{In, goes, comes, same_terms-from}
 use Rattle.record_laws.proofs.Owning.{property_same, subject_same, own_same}
 
