@@ -1,5 +1,5 @@
 -- Counts over the first places, and the last of them that passes a test.
-use Rattle.std.proofs.Common.{◌≡◌, ℕ, zero, suc, ◌+◌, ◌-◌, ◌≤◌, ◌<◌, Bool, true, false, cond, refl, ap, sym, ◌∙◌, arith, add-one, List, min, length}
+use Rattle.std.proofs.Common.{◌≡◌, ℕ, zero, suc, ◌+◌, ◌-◌, ◌≤◌, Bool, true, false, cond, refl, ap, sym, ◌∙◌, arith, add-one, List, min, length}
 use Rattle.text_places.specs.declared.places.Place.{Place}
 use Rattle.text_places.specs.Places.{count_below, behind_last, ends_line, is_counted, line_start, line_at, column_at, place_at, place_of}
 
@@ -51,7 +51,7 @@ last_grows test m (suc d) h =
     let e : m + suc d ≡ suc (m + d) = omega arith in
     let h2 : count_below test m ≡ count_below test (m + d) + cond (test (m + d)) 1 0 = rw e at h in
     rw e (last_kept (m + d) (count_below test m) (count_below test (m + d)) (behind_last test m) (behind_last test (m + d)) (test (m + d))
-        (count_grows test m d) (last_grows test m d) h2)
+    (count_grows test m d) (last_grows test m d) h2)
 
 -- the last place that passes stays where the count does
 last_stays : (test : ℕ → Bool) (m n : ℕ) → m ≤ n → count_below test m ≡ count_below test n → behind_last test m ≡ behind_last test n
@@ -75,9 +75,9 @@ pub place_ended : (bytes : List ℕ) (k : ℕ) (p : Place) → p ≡ place_at by
     ◌≡◌ {A = Place} (record { line = p.line + 1; column = 1 }) (place_at bytes (k + 1))
 place_ended bytes k p here ended =
     let l : count_below (ends_line bytes) (k + 1) ≡ count_below (ends_line bytes) k + 1 =
-        count_more (ends_line bytes) k ∙ ap (λ (b : Bool). count_below (ends_line bytes) k + cond b 1 0) ended in
+    count_more (ends_line bytes) k ∙ ap (λ (b : Bool). count_below (ends_line bytes) k + cond b 1 0) ended in
     let s : line_start bytes (k + 1) ≡ k + 1 =
-        last_more (ends_line bytes) k ∙ ap (λ (b : Bool). cond b (k + 1) (behind_last (ends_line bytes) k)) ended in
+    last_more (ends_line bytes) k ∙ ap (λ (b : Bool). cond b (k + 1) (behind_last (ends_line bytes) k)) ended in
     let q : p.line ≡ line_at bytes k = ap (λ (q : Place). q.line) here in
     let line : p.line + 1 ≡ line_at bytes (k + 1) = omega (arith, l, q) in
     let c : count_below (is_counted bytes) (line_start bytes (k + 1)) ≡ count_below (is_counted bytes) (k + 1) = ap (count_below (is_counted bytes)) s in
@@ -89,15 +89,15 @@ pub place_going : (bytes : List ℕ) (k w : ℕ) (p : Place) → p ≡ place_at 
     ◌≡◌ {A = Place} (record { line = p.line; column = p.column + w }) (place_at bytes (k + 1))
 place_going bytes k w p here wide going =
     let l : count_below (ends_line bytes) (k + 1) ≡ count_below (ends_line bytes) k + 0 =
-        count_more (ends_line bytes) k ∙ ap (λ (b : Bool). count_below (ends_line bytes) k + cond b 1 0) going in
+    count_more (ends_line bytes) k ∙ ap (λ (b : Bool). count_below (ends_line bytes) k + cond b 1 0) going in
     let s : line_start bytes (k + 1) ≡ line_start bytes k =
-        last_more (ends_line bytes) k ∙ ap (λ (b : Bool). cond b (k + 1) (behind_last (ends_line bytes) k)) going in
+    last_more (ends_line bytes) k ∙ ap (λ (b : Bool). cond b (k + 1) (behind_last (ends_line bytes) k)) going in
     let line : p.line ≡ line_at bytes (k + 1) = omega (arith, l, ap (λ (q : Place). q.line) here) in
     let c : count_below (is_counted bytes) (line_start bytes (k + 1)) ≡ count_below (is_counted bytes) (line_start bytes k) = ap (count_below (is_counted bytes)) s in
     let m : count_below (is_counted bytes) (k + 1) ≡ count_below (is_counted bytes) k + w =
-        count_more (is_counted bytes) k ∙ ap (λ (n : ℕ). count_below (is_counted bytes) k + n) (sym wide) in
+    count_more (is_counted bytes) k ∙ ap (λ (n : ℕ). count_below (is_counted bytes) k + n) (sym wide) in
     let less : count_below (is_counted bytes) (line_start bytes k) ≤ count_below (is_counted bytes) k =
-        count_ascends (is_counted bytes) (line_start bytes k) k (last_within (ends_line bytes) k) in
+    count_ascends (is_counted bytes) (line_start bytes k) k (last_within (ends_line bytes) k) in
     let q : p.column ≡ column_at bytes k = ap (λ (q : Place). q.column) here in
     let column : p.column + w ≡ column_at bytes (k + 1) = omega (arith, c, m, less, q) in
     placed p.line (line_at bytes (k + 1)) (p.column + w) (column_at bytes (k + 1)) line column
@@ -114,7 +114,7 @@ columns_ascend bytes m n h same =
     let le : min m (length bytes) ≤ min n (length bytes) = omega arith in
     let counts : count_below (ends_line bytes) (min m (length bytes)) ≡ count_below (ends_line bytes) (min n (length bytes)) = omega (arith, same) in
     let start : line_start bytes (min m (length bytes)) ≡ line_start bytes (min n (length bytes)) =
-        last_stays (ends_line bytes) (min m (length bytes)) (min n (length bytes)) le counts in
+    last_stays (ends_line bytes) (min m (length bytes)) (min n (length bytes)) le counts in
     let c : count_below (is_counted bytes) (line_start bytes (min m (length bytes))) ≡ count_below (is_counted bytes) (line_start bytes (min n (length bytes))) =
-        ap (count_below (is_counted bytes)) start in
+    ap (count_below (is_counted bytes)) start in
     omega (arith, c, count_ascends (is_counted bytes) (min m (length bytes)) (min n (length bytes)) le)
