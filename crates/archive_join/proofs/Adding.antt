@@ -1,5 +1,5 @@
 -- Triples of a file that are added one by one.
-use Rattle.std.proofs.Common.{◌≡◌, ℕ, ◌+◌, ◌<◌, List, [], ◌∷◌, ◌++◌, length, drop, map, max, Option, Some, None, refl, sym, ap, subst, ◌∙◌, arith, append_assoc, append-nil, add-one, get_or, suc}
+use Rattle.std.proofs.Common.{◌≡◌, ℕ, ◌+◌, ◌<◌, List, [], ◌∷◌, ◌++◌, length, drop, map, max, Option, Some, None, refl, sym, ap, subst, ◌∙◌, arith, append_assoc, append-nil, add-one, suc}
 use Rattle.std.specs.Prelude.{slice_get}
 use Rattle.std.specs.Option.{option_map}
 use Rattle.std.specs.List.{cons_option}
@@ -77,7 +77,7 @@ module _ (blanks length : ℕ) (file start : Records) where
       → IsAdded blanks length file start next more (k + 1) (max seen bound)
   added_one now next table more k seen bound t at is put tabled few bounds =
       let p = put_last now next (option_map (moved blanks length) (value_triple file.names t)) (triples_behind blanks length file) is.done (behind blanks length file.names (drop (k + 1) file.triples))
-              (is.all ∙ ap (λ (xs : List ValueTriple). is.done ++ xs) (next_option k t at)) is.now put in
+      (is.all ∙ ap (λ (xs : List ValueTriple). is.done ++ xs) (next_option k t at)) is.now put in
       record {
         done = p.0;
         all = p.1;
@@ -92,9 +92,10 @@ module _ (blanks length : ℕ) (file start : Records) where
   -- all of them
   pub added_all : (now : Records) (table : NameTable) (k seen : ℕ) → drop k file.triples ≡ [] → IsAdded blanks length file start now table k seen
       → (now ≡ with_all start (triples_behind blanks length file)) × (seen ≡ blank_count file.triples)
-  added_all now table k seen end is =
-      (is.now ∙ ap (with_all start) (sym (is.all ∙ ap (λ (ts : List Triple). is.done ++ behind blanks length file.names ts) end ∙ append-nil is.done)),
-       sym (max-zero seen) ∙ ap (λ (n : ℕ). max seen n) (sym blank_count_nil ∙ ap (λ (ts : List Triple). blank_count ts) (sym end)) ∙ is.seen)
+  added_all now table k seen end is = (
+    is.now ∙ ap (with_all start) (sym (is.all ∙ ap (λ (ts : List Triple). is.done ++ behind blanks length file.names ts) end ∙ append-nil is.done)),
+    sym (max-zero seen) ∙ ap (λ (n : ℕ). max seen n) (sym blank_count_nil ∙ ap (λ (ts : List Triple). blank_count ts) (sym end)) ∙ is.seen,
+  )
 
   at_first : (now : Records) (f : Refusal) (o : Option ValueTriple) (all done rest : List ValueTriple) → all ≡ done ++ cons_option o rest → now ≡ with_all start done → AreFew now → IsPastWith now o (Refused f)
       → IsFirstPast start all f

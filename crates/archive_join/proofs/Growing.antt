@@ -1,11 +1,11 @@
 -- Names and triples only grow.
-use Rattle.std.proofs.Common.{◌≡◌, ℕ, ◌+◌, ◌<◌, ◌≤◌, ◌⊎◌, inl, inr, Bool, true, false, List, [], ◌∷◌, ◌++◌, length, length-append, refl, sym, ap, subst, ◌∙◌, arith}
+use Rattle.std.proofs.Common.{◌≡◌, ◌≤◌, inl, inr, Bool, true, false, List, [], ◌∷◌, ◌++◌, length, length-append, refl, ap, subst, ◌∙◌, arith}
 use Rattle.rdf_terms.specs.declared.terms.Refusal.{Refusal}
 use Rattle.rdf_terms.specs.declared.terms.Triple.{Triple}
 use Rattle.rdf_terms.specs.declared.triples.Records.{Records}
 use Rattle.rdf_terms.specs.Naming.{NameLists, name_count, has_iri, has_literal}
-use Rattle.rdf_terms.specs.Terms.{is_held, with_triple}
-use Rattle.archive_join.specs.Values.{Value, ValueTriple, AreFew, IsPast, IsFirstPast, names_with, names_with_three, with_values, with_all}
+use Rattle.rdf_terms.specs.Terms.{is_held, with_triple, triple_of}
+use Rattle.archive_join.specs.Values.{Value, ValueTriple, AreFew, IsFirstPast, names_with, names_with_three, terms_of, with_values, with_all}
 use Rattle.archive_join.specs.Values.Value.{Iri, Blank, Lit}
 use Rattle.archive_join.proofs.Renumbering.{with_new}
 
@@ -35,7 +35,7 @@ all_grow r (x ∷ xs) =
     let rest = all_grow (with_values r x) xs in
     record {
       names = omega (arith, three_names r.names x, rest.names);
-      triples = omega (arith, more_triples r.triples _, rest.triples);
+      triples = omega (arith, more_triples r.triples (triple_of (terms_of r.names x, x.at)), rest.triples);
     }
 
 with_all_append : (r : Records) (xs ys : List ValueTriple) → with_all r (xs ++ ys) ≡ with_all (with_all r xs) ys
@@ -50,7 +50,7 @@ with_all_cons r x xs = refl
 pub not_refused : (start : Records) (xs : List ValueTriple) (f : Refusal) → AreFew (with_all start xs) → IsFirstPast start xs f → ⊥
 not_refused start xs f few h =
     let all : with_all start xs ≡ with_all (with_values (with_all start h.done) h.first) h.rest =
-        ap (with_all start) h.all ∙ with_all_append start h.done (h.first ∷ h.rest) ∙ with_all_cons (with_all start h.done) h.first h.rest in
+    ap (with_all start) h.all ∙ with_all_append start h.done (h.first ∷ h.rest) ∙ with_all_cons (with_all start h.done) h.first h.rest in
     let small : AreFew (with_all (with_values (with_all start h.done) h.first) h.rest) = subst AreFew all few in
     let below = all_grow (with_values (with_all start h.done) h.first) h.rest in
     elim h.past [

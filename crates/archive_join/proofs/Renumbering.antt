@@ -1,8 +1,7 @@
 -- Names keep their numbers as others come.
-use Rattle.std.proofs.Common.{◌≡◌, ℕ, ◌+◌, Bool, true, false, true≢false, ◌||◌, List, [], ◌∷◌, ◌++◌, length, cond, refl, sym, ap, ◌∙◌, arith}
+use Rattle.std.proofs.Common.{◌≡◌, Bool, true, false, true≢false, List, [], ◌∷◌, ◌++◌, refl, sym, arith}
 use Rattle.std.specs.Prelude.{if◌then◌else◌}
 use Rattle.std.specs.List.{list_any, position_or_len}
-use Rattle.std.proofs.lemmas.Grind.{common_steps}
 
 any_kept : {X : Type 0} (q : X → Bool) (xs : List X) (y : X) → list_any q xs ≡ true → list_any q (xs ++ y ∷ []) ≡ true
 any_kept q [] y h = absurd (true≢false (sym h))

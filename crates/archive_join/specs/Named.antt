@@ -9,7 +9,7 @@ use Rattle.rdf_terms.specs.declared.names.NameFault.TheVariants as name
 use Rattle.rdf_terms.specs.declared.triples.TripleFault.{TripleFault}
 use Rattle.rdf_terms.specs.declared.triples.TripleFault.TheVariants as triple
 use Rattle.rdf_terms.specs.declared.triples.Records.{Records}
-use Rattle.rdf_terms.specs.Naming.{NameLists, has_iri, iri_number, has_literal, literal_number, name_count}
+use Rattle.rdf_terms.specs.Naming.{NameLists, has_iri, iri_number, has_literal, literal_number}
 use Rattle.archive_join.specs.Values.{Value, ValueTriple, IsPast, with_values}
 use Rattle.archive_join.specs.declared.faults.JoinFault.{JoinFault}
 use Rattle.archive_join.specs.declared.faults.JoinFault.TheVariants as join

@@ -1,7 +1,7 @@
 // What is printed of a file that is refused.
 ghost use Rattle.std.specs.Prelude.{◌≡◌, IfOk, string_bytes};
 ghost use Rattle.report_base.specs.Reports.{Writes};
-ghost use Rattle.archive_join.specs.Joining.{file_refusal_report, file_refusal_text};
+ghost use Rattle.archive_join.specs.Refusals.{file_refusal_report, file_refusal_text};
 
 use crm_outside::{Sink, print_text};
 use rdf_terms::Refusal;

@@ -85,6 +85,7 @@ fn append_moment(
 }
 
 /// A set of consistent orders with its closure and the number of one of its dates.
+#[derive(Clone, Copy)]
 pub struct Moment<'a> {
     pub set: &'a OrderSet,
     pub closure: &'a Closure,

@@ -1,6 +1,7 @@
 -- Numbers that pass a test, one more at a time.
-use Rattle.std.proofs.Common.{zero, suc, ◌≡◌, ℕ, List, [], ◌∷◌, ◌++◌, ◌+◌, ap, sym, arith, ◌∙◌, Bool, cond}
+use Rattle.std.proofs.Common.{zero, suc, ◌≡◌, ℕ, List, [], ◌∷◌, ◌++◌, ◌+◌, ap, sym, arith, ◌∙◌, Bool, cond, ◌<◌, length, get_or, take, map}
 use Rattle.std.specs.List.{filter, range_with_len}
+use Rattle.std.proofs.lemmas.List.{map-append, take_more}
 use Rattle.std.proofs.lemmas.List.Elements.{filter-append}
 
 range_more : (n a : ℕ) → range_with_len a (n + 1) ≡ range_with_len a n ++ (a + n) ∷ []
@@ -20,3 +21,10 @@ pub pushed : (p : ℕ → Bool) (n : ℕ) (passes : Bool) (old new : List ℕ) �
     old ≡ filter p (range_with_len 0 n) → new ≡ filter p (range_with_len 0 (n + 1))
 pushed p n passes old new is e was =
     e ∙ ap (λ l. l ++ cond passes (n ∷ []) []) was ∙ ap (λ b. filter p (range_with_len 0 n) ++ cond b (n ∷ []) []) is ∙ sym (passing_more p n)
+
+-- one item more is mapped
+pub mapped_more : {X Y : Type 0} (f : X → Y) (xs : List X) (k : ℕ) (d : X) (y : Y) (old new : List Y) → k < length xs → y ≡ f (get_or xs k d) →
+    new ≡ old ++ y ∷ [] → old ≡ map f (take k xs) → new ≡ map f (take (k + 1) xs)
+mapped_more f xs k d y old new h is e was =
+    e ∙ ap (λ l. l ++ y ∷ []) was ∙ ap (λ z. map f (take k xs) ++ z ∷ []) is
+    ∙ sym (ap (map f) (take_more xs k d h) ∙ map-append f (take k xs) (get_or xs k d ∷ []))

@@ -185,7 +185,8 @@ fn tangles_at(
 {
     let mut tangles = Vec::new(analysis.alloc());
     for k in 0..least.len() {
-        tangles.push(tangle_at(analysis, least[k], points)?)?;
+        let tangle = tangle_at(analysis, least[k], points)?;
+        tangles.push(tangle)?;
     }
     Ok(tangles)
 }

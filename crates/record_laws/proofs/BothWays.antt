@@ -1,12 +1,10 @@
 -- What says the same is consistent alike, and what follows of it is the same.
-use Rattle.std.proofs.Common.{◌≡◌, ℕ, Bool, true, false, List, length, refl, sym, ap, subst, ◌∙◌}
+use Rattle.std.proofs.Common.{◌≡◌, ℕ, Bool, true, false, sym, ap, subst, ◌∙◌}
 use Rattle.std.specs.Prelude.{◌↔◌}
 use Rattle.rdf_terms.specs.declared.terms.Term.{Term}
-use Rattle.rdf_terms.specs.declared.terms.Triple.{Triple}
 use Rattle.rdf_terms.specs.declared.triples.Records.{Records}
 use Rattle.rdf_terms.specs.Naming.{NameLists}
 use Rattle.rdf_terms.specs.Fitting.{is_literal, iri_of, literal_of}
-use Rattle.triple_pool.specs.Pool.{number_from}
 use Rattle.order_laws.specs.declared.Point.{Point}
 use Rattle.order_laws.specs.Chains.{Follows, HasCycle}
 use Rattle.order_laws.specs.Placings.{IsConsistent}
@@ -15,7 +13,7 @@ use Rattle.report_base.specs.Reports.{findings_from}
 use Rattle.report_base.proofs.OrderSets.{order_set}
 use Rattle.order_laws.proofs.Hold.{cycle_refutes}
 use Rattle.order_laws.proofs.Placed.{consistent}
-use Rattle.record_laws.specs.Renaming.{IsRenaming, SayTheSame, Same, boundary}
+use Rattle.record_laws.specs.Renaming.{IsRenaming, Same, boundary}
 use Rattle.record_laws.proofs.OneWay.{OneWay, one_way}
 use Rattle.record_laws.proofs.Walking.{follows_becomes, cycle_becomes}
 use Rattle.record_laws.proofs.Moving.{point_of, number_of_node, numbered_same, orders_become}
@@ -73,9 +71,10 @@ follows_goes r q m back s a b ha hb i j strict f =
 pub follows_alike : (r q : Records) (m back : Term → Term) → Same r q m back → (a b : Term) → is_numbered (findings_from r).extents a ≡ true → is_numbered (findings_from r).extents b ≡ true → (i j strict : Bool)
     → Follows (findings_from r).orders.list (boundary i (extent_number (findings_from r).extents a)) (boundary j (extent_number (findings_from r).extents b)) strict
     ↔ Follows (findings_from q).orders.list (boundary i (extent_number (findings_from q).extents (m a))) (boundary j (extent_number (findings_from q).extents (m b))) strict
-follows_alike r q m back s a b ha hb i j strict =
-    (follows_goes r q m back s a b ha hb i j strict,
-     λ f. subst (λ (x : Term). Follows (findings_from r).orders.list (boundary i (extent_number (findings_from r).extents x)) (boundary j (extent_number (findings_from r).extents b)) strict) (s.renaming.forth_and_back a)
-       (subst (λ (y : Term). Follows (findings_from r).orders.list (boundary i (extent_number (findings_from r).extents (back (m a)))) (boundary j (extent_number (findings_from r).extents y)) strict) (s.renaming.forth_and_back b)
-       (follows_goes q r back m (turned r q m back s) (m a) (m b)
-         (numbered_same r.names q.names r.triples q.triples m (one r q m back s) a ∙ ha) (numbered_same r.names q.names r.triples q.triples m (one r q m back s) b ∙ hb) i j strict f)))
+follows_alike r q m back s a b ha hb i j strict = (
+  follows_goes r q m back s a b ha hb i j strict,
+  λ f. subst (λ (x : Term). Follows (findings_from r).orders.list (boundary i (extent_number (findings_from r).extents x)) (boundary j (extent_number (findings_from r).extents b)) strict) (s.renaming.forth_and_back a)
+      (subst (λ (y : Term). Follows (findings_from r).orders.list (boundary i (extent_number (findings_from r).extents (back (m a)))) (boundary j (extent_number (findings_from r).extents y)) strict) (s.renaming.forth_and_back b)
+      (follows_goes q r back m (turned r q m back s) (m a) (m b)
+      (numbered_same r.names q.names r.triples q.triples m (one r q m back s) a ∙ ha) (numbered_same r.names q.names r.triples q.triples m (one r q m back s) b ∙ hb) i j strict f)),
+)

@@ -10,7 +10,7 @@ use Rattle.crm_type_check.specs.declared.own.OwnFaults.{OwnFaults}
 use Rattle.crm_type_check.specs.declared.relation.Relation.{Relation}
 use Rattle.crm_type_check.specs.Meaning.{makes_relation}
 use Rattle.crm_type_check.specs.Faults.{declared_in, own_faults}
-use Rattle.crm_type_check.specs.Relations.{has_property, occurrence, parts_in, relation_of, relation_with, relation_by_parts, has_a1, kinds, kinds_of}
+use Rattle.crm_type_check.specs.Relations.{has_property, occurrence, parts_in, relation_of, has_a1, kinds, kinds_of}
 use Rattle.record_laws.specs.Renaming.{IsRenamed, renamed_relation}
 use Rattle.record_laws.proofs.OneWay.{OneWay}
 use Rattle.record_laws.proofs.Members.{map_numbered}
@@ -43,5 +43,5 @@ module _ (names other : NameLists) (triples others : List Triple) (m : Term → 
   pub kinds_same : (t u : Triple) → IsRenamed m t u → kinds_of other (number_from 0 others) u ≡ kinds_of names (number_from 0 triples) t
   kinds_same t u r =
       ap (λ (o : OwnFaults). kinds o (has_a1 other (declared_in other (number_from 0 others)) (parts_in other (number_from 0 others)) u))
-        (own_same names other m same.renaming (declared_in names (number_from 0 triples)) (declared_in other (number_from 0 others)) (declared_same names other m same.renaming triples others same) t u r)
+      (own_same names other m same.renaming (declared_in names (number_from 0 triples)) (declared_in other (number_from 0 others)) (declared_same names other m same.renaming triples others same) t u r)
       ∙ ap (λ (b : Bool). kinds (own_faults names (declared_in names (number_from 0 triples)) t) b) (a1_same t u r)

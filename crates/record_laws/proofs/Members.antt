@@ -1,12 +1,11 @@
 -- What is asked of some triple, in two archives that say the same.
-use Rattle.std.proofs.Common.{◌≡◌, ℕ, suc, ◌⊎◌, inl, inr, Bool, true, false, true≢false, ◌&&◌, ◌||◌, not, List, [], ◌∷◌, map, filter, refl, sym, ap, subst, ◌∙◌}
-use Rattle.std.specs.List.{list_any, IsDistinct, AllByRecursion}
-use Rattle.std.proofs.lemmas.Bool.{and_parts}
+use Rattle.std.proofs.Common.{◌≡◌, ℕ, suc, ◌⊎◌, inl, inr, Bool, true, false, true≢false, ◌||◌, List, [], ◌∷◌, map, refl, sym, ap, ◌∙◌}
+use Rattle.std.specs.List.{list_any}
 use Rattle.rdf_terms.specs.declared.terms.Term.{Term}
 use Rattle.rdf_terms.specs.declared.terms.Triple.{Triple}
 use Rattle.rdf_terms.specs.Terms.{same_term, same_terms, is_held}
 use Rattle.rdf_terms.specs.Naming.{NameLists}
-use Rattle.rdf_terms.proofs.TermLemmas.{same_term-true, same_term-refl, same_terms-true}
+use Rattle.rdf_terms.proofs.TermLemmas.{same_term-refl, same_terms-true}
 use Rattle.triple_pool.specs.Pool.{number_from}
 use Rattle.record_laws.specs.Renaming.{IsRenamed, renamed}
 use Rattle.record_laws.proofs.OneWay.{OneWay, same_bool}

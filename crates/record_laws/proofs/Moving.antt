@@ -1,8 +1,8 @@
 -- The orders of two archives that say the same are the same, but for the numbers of extents.
-use Rattle.std.proofs.Common.{◌≡◌, ℕ, zero, suc, ℤ, ◌+◌, ◌<◌, ◌-◌, ◌⊎◌, inl, inr, Bool, true, false, true≢false, ◌&&◌, ◌||◌, not, cond, Option, Some, None, is_some, List, [], ◌∷◌, ◌++◌, length, get_or, map, filter, refl, sym, ap, subst, ◌∙◌, arith}
+use Rattle.std.proofs.Common.{◌≡◌, ℕ, zero, suc, ℤ, ◌+◌, ◌<◌, ◌-◌, ◌⊎◌, inl, inr, Bool, true, false, true≢false, ◌||◌, not, cond, Option, Some, None, List, [], ◌∷◌, ◌++◌, length, get_or, map, filter, refl, sym, ap, subst, ◌∙◌, arith}
 use Rattle.std.specs.Prelude.{◌<ℤ◌}
 use Rattle.std.specs.Option.{option_map}
-use Rattle.std.specs.List.{list_any, list_all, filter_map, flat_map, cons_option, fold, position_or_len, AllByRecursion, All}
+use Rattle.std.specs.List.{list_any, list_all, filter_map, flat_map, cons_option, fold, position_or_len, AllByRecursion}
 use Rattle.std.specs.List.Sorted.{IsStrictlySortedBy}
 use Rattle.std.specs.Ordering.{int_cmp, match_ordering}
 use Rattle.std.specs.BTreeSet.{insert_key}
@@ -20,24 +20,23 @@ use Rattle.rdf_terms.specs.Naming.{NameLists}
 use Rattle.rdf_terms.proofs.TermLemmas.{same_term-true, same_term-refl}
 use Rattle.triple_pool.specs.Pool.{number_from}
 use Rattle.crm_type_check.specs.declared.Fault.{Fault}
-use Rattle.crm_type_check.specs.declared.FaultKind.{FaultKind}
 use Rattle.crm_type_check.specs.Meaning.{passes}
 use Rattle.crm_type_check.specs.Relations.{kinds_of, faults_of}
 use Rattle.order_laws.specs.declared.Point.{Point}
 use Rattle.order_laws.specs.declared.Point.TheVariants.{Start, End, Date}
 use Rattle.order_laws.specs.declared.By.TheVariants.{Extent, Dates}
 use Rattle.order_laws.specs.declared.Order.{Order}
-use Rattle.order_core.specs.Sets.{extent_orders, date_orders, completed}
+use Rattle.order_core.specs.Sets.{extent_orders, date_orders}
 use Rattle.boundary_orders.specs.declared.statements.Statement.{Statement}
 use Rattle.boundary_orders.specs.Statements.{is_faulty, is_dated, meaning_of, statement_of, statements_of}
 use Rattle.boundary_orders.specs.Extents.{distinct, ends_in, kind_of, standings_of, extents_of}
-use Rattle.boundary_orders.specs.Orders.{Spot, DomainStart, DomainEnd, RangeStart, RangeEnd, TheDate, Rule, rules_of, point_at, order_by, extent_number, is_numbered, AreNumbered, date_number, instant_in, instant_of, dates_of, range_number, orders_with, orders_by, statement_orders, orders_of}
+use Rattle.boundary_orders.specs.Orders.{Spot, DomainStart, DomainEnd, RangeStart, RangeEnd, TheDate, Rule, rules_of, point_at, order_by, extent_number, is_numbered, AreNumbered, date_number, instant_in, instant_of, dates_of, orders_with, orders_by, statement_orders, orders_of}
 use Rattle.boundary_orders.proofs.Ruling.{spot_fits, rule_fits, rules_fit}
 use Rattle.boundary_orders.proofs.Within.{place_within, extents_cover}
 use Rattle.report_base.proofs.DatesSorted.{ascending}
 use Rattle.record_laws.specs.Renaming.{IsRenamed, renamed_statement}
-use Rattle.record_laws.proofs.OneWay.{OneWay, same_bool}
-use Rattle.record_laws.proofs.Members.{In, any_in, in_any, any_same, any_numbered, goes, comes}
+use Rattle.record_laws.proofs.OneWay.{OneWay}
+use Rattle.record_laws.proofs.Members.{In, any_in, any_same, any_numbered, goes, comes}
 use Rattle.record_laws.proofs.Faulted.{kinds_same}
 use Rattle.record_laws.proofs.Standing.{some_kind, faulty_is, any_flat, any_filtered, meaning_same, kind_same}
 use Rattle.record_laws.proofs.Walking.{at_in, in_at, in_left, in_right, in_either, IsMoved, Become}
@@ -120,10 +119,12 @@ module _ (names : NameLists) (triples : List Triple) where
 
   statements_in : (s : Statement) → States names triples s → (k : ℕ) × In (k, s) (statements_of names (number_from 0 triples) (faults_of names (number_from 0 triples)))
   statements_in s h =
-      let p = numbered_in 0 triples h.triple h.there in
-      (p.0, filtered_in (statement_of names (number_from 0 triples) (faults_of names (number_from 0 triples))) (number_from 0 triples) (p.0, h.triple) (p.0, s) p.1
-        (ap (λ (b : Bool). cond b None (option_map (λ s. (p.0, s)) (meaning_of names (number_from 0 triples) h.triple))) (faulty_is names triples (p.0, h.triple) p.1 ∙ h.sound)
-         ∙ ap (λ (o : Option Statement). option_map (λ s. (p.0, s)) o) h.meaning))
+      let p = numbered_in 0 triples h.triple h.there in (
+        p.0,
+        filtered_in (statement_of names (number_from 0 triples) (faults_of names (number_from 0 triples))) (number_from 0 triples) (p.0, h.triple) (p.0, s) p.1
+            (ap (λ (b : Bool). cond b None (option_map (λ s. (p.0, s)) (meaning_of names (number_from 0 triples) h.triple))) (faulty_is names triples (p.0, h.triple) p.1 ∙ h.sound)
+            ∙ ap (λ (o : Option Statement). option_map (λ s. (p.0, s)) o) h.meaning),
+      )
 
 -- two lists that ascend with the same elements are the same
 below_all : (x : ℤ) (ys : List ℤ) → AllByRecursion (λ y. int_cmp x y ≡ Less) ys → (z : ℤ) → In z ys → x <ℤ z
@@ -144,7 +145,7 @@ same_sorted (x ∷ xs) (y ∷ ys) s t f g = ap (λ (z : ℤ). z ∷ xs) heads �
     heads : x ≡ y
     heads = elim (f x (inl refl)) [
       | inl e ↦ e
-      | inr i ↦ elim (g y (inl refl)) [ | inl e ↦ sym e | inr j ↦ absurd (never_below x y (below_all x xs s.0 y j) (below_all y ys t.0 x i)) ]
+      | inr i ↦ elim (g y (inl refl)) [ inl e ↦ sym e | inr j ↦ absurd (never_below x y (below_all x xs s.0 y j) (below_all y ys t.0 x i)) ]
     ]
 
     down : (z : ℤ) → In z xs → In z ys
@@ -172,7 +173,7 @@ in_inserted (x ∷ xs) k z i = by (int_cmp k x) i (in_inserted xs k z)
     by Less (inr j) rest = inr j
     by Equal j rest = inr j
     by Greater (inl e) rest = inr (inl e)
-    by Greater (inr j) rest = elim (rest j) [ | inl e ↦ inl e | inr h ↦ inr (inr h) ]
+    by Greater (inr j) rest = elim (rest j) [ inl e ↦ inl e | inr h ↦ inr (inr h) ]
 
 inserted_in : (ks : List ℤ) (k z : ℤ) → (z ≡ k) ⊎ In z ks → In z (insert_key int_cmp ks k)
 inserted_in [] k z (inl e) = inl e
@@ -191,7 +192,7 @@ inserted_in (x ∷ xs) k z h = by (int_cmp k x) refl h (inserted_in xs k z)
 in_all_inserted : (ts ks : List ℤ) (z : ℤ) → In z (fold (insert_key int_cmp) ks ts) → In z ks ⊎ In z ts
 in_all_inserted [] ks z i = inl i
 in_all_inserted (t ∷ ts) ks z i = elim (in_all_inserted ts (insert_key int_cmp ks t) z i) [
-  | inl a ↦ elim (in_inserted ks t z a) [ | inl e ↦ inr (inl e) | inr b ↦ inl b ]
+  | inl a ↦ elim (in_inserted ks t z a) [ inl e ↦ inr (inl e) | inr b ↦ inl b ]
   | inr c ↦ inr (inr c)
 ]
 
@@ -249,7 +250,7 @@ in_extents : (n : ℕ) (o : Order) → In o (extent_orders n) → (k : ℕ) × (
 in_extents zero o i = absurd i
 in_extents (suc n) o i = elim (in_either (extent_orders n) (record { low = Start n; high = End n; strict = true; by = Extent n } ∷ []) o i) [
   | inl a ↦ (let r = in_extents n o a in (r.0, omega (arith, r.1), r.2))
-  | inr b ↦ elim b [ | inl e ↦ (n, omega arith, e) | inr never ↦ absurd never ]
+  | inr b ↦ elim b [ inl e ↦ (n, omega arith, e) | inr never ↦ absurd never ]
 ]
 
 extents_in : (n k : ℕ) → k < n → In (record { low = Start k; high = End k; strict = true; by = Extent k }) (extent_orders n)
@@ -263,7 +264,7 @@ in_date_orders : (n : ℕ) (o : Order) → In o (date_orders n) → (k : ℕ) ×
 in_date_orders zero o i = absurd i
 in_date_orders (suc n) o i = elim (in_either (date_orders n) (record { low = Date n; high = Date (n + 1); strict = true; by = Dates } ∷ []) o i) [
   | inl a ↦ in_date_orders n o a
-  | inr b ↦ elim b [ | inl e ↦ (n, e) | inr never ↦ absurd never ]
+  | inr b ↦ elim b [ inl e ↦ (n, e) | inr never ↦ absurd never ]
 ]
 
 module _ (names other : NameLists) (triples others : List Triple) (m : Term → Term) (same : OneWay names triples other others m) where
@@ -283,7 +284,7 @@ module _ (names other : NameLists) (triples others : List Triple) (m : Term → 
   states_comes s h =
       let c = comes names other triples others m same h.triple h.there in
       by (meaning_of names (number_from 0 triples) c.0) refl (sym h.meaning ∙ meaning_same names other triples others m same c.0 h.triple c.2)
-        (sym (ap some_kind (kinds_same names other triples others m same c.0 h.triple c.2)) ∙ h.sound) c.1
+      (sym (ap some_kind (kinds_same names other triples others m same c.0 h.triple c.2)) ∙ h.sound) c.1
     where
       by : (o : Option Statement) → meaning_of names (number_from 0 triples) (comes names other triples others m same h.triple h.there).0 ≡ o → Some s ≡ option_map (renamed_statement m) o
           → some_kind (kinds_of names (number_from 0 triples) (comes names other triples others m same h.triple h.there).0) ≡ false → In (comes names other triples others m same h.triple h.there).0 triples
@@ -373,7 +374,7 @@ module _ (names other : NameLists) (triples others : List Triple) (m : Term → 
   numbered_same node =
       listed (kind_of (standings_of other (number_from 0 others) their_faults)) others (m node)
       ∙ any_same names other triples others m same (is_end_row (kind_of (standings_of names (number_from 0 triples) our_faults)) node)
-        (is_end_row (kind_of (standings_of other (number_from 0 others) their_faults)) (m node)) (end_row_same node)
+      (is_end_row (kind_of (standings_of other (number_from 0 others) their_faults)) (m node)) (end_row_same node)
       ∙ sym (listed (kind_of (standings_of names (number_from 0 triples) our_faults)) triples node)
 
   abbrev pub node_at : ℕ → Term
@@ -391,12 +392,12 @@ module _ (names other : NameLists) (triples others : List Triple) (m : Term → 
   pub number_of_node : (node : Term) → is_numbered our_extents node ≡ true → number_at (extent_number our_extents node) ≡ extent_number their_extents (m node)
   number_of_node node h =
       ap (λ (x : Term). extent_number their_extents (m x))
-        (sym (same_term-true node (get_or our_extents (extent_number our_extents node) (term.Iri 0, false)).0 (place_holds (λ (e : Term × Bool). same_term node e.0) our_extents (term.Iri 0, false) h)))
+      (sym (same_term-true node (get_or our_extents (extent_number our_extents node) (term.Iri 0, false)).0 (place_holds (λ (e : Term × Bool). same_term node e.0) our_extents (term.Iri 0, false) h)))
 
   number_within : (k : ℕ) → k < length our_extents → number_at k < length their_extents
   number_within k lt =
       place_within (λ (e : Term × Bool). same_term (m (node_at k)) e.0) their_extents
-        (numbered_same (node_at k) ∙ any_in (λ (e : Term × Bool). same_term (node_at k) e.0) our_extents (get_or our_extents k (term.Iri 0, false)) (at_in our_extents k (term.Iri 0, false) lt) (same_term-refl (node_at k)))
+      (numbered_same (node_at k) ∙ any_in (λ (e : Term × Bool). same_term (node_at k) e.0) our_extents (get_or our_extents k (term.Iri 0, false)) (at_in our_extents k (term.Iri 0, false) lt) (same_term-refl (node_at k)))
 
   spot_same : (dated : Bool) (spot : Spot) (d r d' r' : ℕ) → spot_fits dated spot ≡ true → d' ≡ number_at d → (dated ≡ true → r' ≡ r) → (dated ≡ false → r' ≡ number_at r)
       → point_at d' r' spot ≡ point_of (point_at d r spot)
@@ -414,13 +415,15 @@ module _ (names other : NameLists) (triples others : List Triple) (m : Term → 
       → (o : Order) → In o (map (order_by n d r) rules) → (p : Order) × In p (map (order_by k d' r') rules) × IsMoved point_of o p
   rule_order dated rules n k d r d' r' fits pd q w o i =
       let x = in_mapped (order_by n d r) rules o i in
-      let f = and_parts (spot_fits dated x.0.low) (spot_fits dated x.0.high) (all_pass (rule_fits dated) rules fits x.0 x.1) in
-      (order_by k d' r' x.0, mapped_in (order_by k d' r') rules x.0 x.1,
-       record {
-         low = spot_same dated x.0.low d r d' r' f.0 pd q w ∙ ap (λ (y : Order). point_of y.low) (sym x.2);
-         high = spot_same dated x.0.high d r d' r' f.1 pd q w ∙ ap (λ (y : Order). point_of y.high) (sym x.2);
-         strict = ap (λ (y : Order). y.strict) (sym x.2);
-       })
+      let f = and_parts (spot_fits dated x.0.low) (spot_fits dated x.0.high) (all_pass (rule_fits dated) rules fits x.0 x.1) in (
+        order_by k d' r' x.0,
+        mapped_in (order_by k d' r') rules x.0 x.1,
+        record {
+          low = spot_same dated x.0.low d r d' r' f.0 pd q w ∙ ap (λ (y : Order). point_of y.low) (sym x.2);
+          high = spot_same dated x.0.high d r d' r' f.1 pd q w ∙ ap (λ (y : Order). point_of y.high) (sym x.2);
+          strict = ap (λ (y : Order). y.strict) (sym x.2);
+        },
+      )
 
   statement_numbered : (x : ℕ × Statement) → In x ours → AreNumbered our_extents x.1
   statement_numbered x i =
@@ -430,7 +433,7 @@ module _ (names other : NameLists) (triples others : List Triple) (m : Term → 
   orders_go : (b : Bool) (x : ℕ × Statement) (k : ℕ) → is_dated x.1.code ≡ b → AreNumbered our_extents x.1 → (o : Order)
       → In o (orders_with x (extent_number our_extents x.1.domain) (cond b (option_map (date_number (dates_of names ours)) (instant_of names x.1)) (Some (extent_number our_extents x.1.range))))
       → (p : Order) × In p (orders_with (k, renamed_statement m x.1) (extent_number their_extents (m x.1.domain))
-          (cond b (option_map (date_number (dates_of other theirs)) (instant_of other (renamed_statement m x.1))) (Some (extent_number their_extents (m x.1.range))))) × IsMoved point_of o p
+      (cond b (option_map (date_number (dates_of other theirs)) (instant_of other (renamed_statement m x.1))) (Some (extent_number their_extents (m x.1.range))))) × IsMoved point_of o p
   orders_go false x k dated a o i =
       rule_order false (rules_of x.1.code) x.0 k _ _ _ _ (subst (λ (c : Bool). list_all (rule_fits c) (rules_of x.1.code) ≡ true) dated (rules_fit x.1.code))
       (sym (number_of_node x.1.domain a.domain)) (λ e. absurd (true≢false (sym e))) (λ e. sym (number_of_node x.1.range (a.range dated))) o i
@@ -443,7 +446,7 @@ module _ (names other : NameLists) (triples others : List Triple) (m : Term → 
           subst (λ (t' : Option ℤ). (p : Order) × In p (orders_with (k, renamed_statement m x.1) (extent_number their_extents (m x.1.domain)) (option_map (date_number (dates_of other theirs)) t')) × IsMoved point_of o p)
           (sym (instant_same names other triples others m same x.1 ∙ e))
           (rule_order true (rules_of x.1.code) x.0 k _ _ _ _ (subst (λ (c : Bool). list_all (rule_fits c) (rules_of x.1.code) ≡ true) dated (rules_fit x.1.code))
-           (sym (number_of_node x.1.domain a.domain)) (λ u. ap (λ (ds : List ℤ). date_number ds t) (dates_same names other triples others m same)) (λ u. absurd (true≢false u)) o i)
+          (sym (number_of_node x.1.domain a.domain)) (λ u. ap (λ (ds : List ℤ). date_number ds t) (dates_same names other triples others m same)) (λ u. absurd (true≢false u)) o i)
 
   -- each order of the one is, by the new numbers, one of the other
   pub orders_become : Become point_of (orders_of names (number_from 0 triples) our_faults).list (orders_of other (number_from 0 others) their_faults).list
@@ -451,22 +454,28 @@ module _ (names other : NameLists) (triples others : List Triple) (m : Term → 
     | inl a ↦ (
         let x = in_flat (orders_by names our_extents (dates_of names ours)) ours o a in
         let k = statements_in other others (renamed_statement m x.0.1) (states_goes names other triples others m same x.0.1 (in_statements names triples x.0 x.1)) in
-        let p = orders_go (is_dated x.0.1.code) x.0 k.0 refl (statement_numbered x.0 x.1) o x.2 in
-        (p.0, in_left (statement_orders other their_extents (dates_of other theirs) theirs) (extent_orders (length their_extents) ++ date_orders (length (dates_of other theirs) - 1)) p.0
-          (flat_in (orders_by other their_extents (dates_of other theirs)) theirs (k.0, renamed_statement m x.0.1) p.0 k.1 p.1), p.2))
+        let p = orders_go (is_dated x.0.1.code) x.0 k.0 refl (statement_numbered x.0 x.1) o x.2 in (
+          p.0,
+          in_left (statement_orders other their_extents (dates_of other theirs) theirs) (extent_orders (length their_extents) ++ date_orders (length (dates_of other theirs) - 1)) p.0
+              (flat_in (orders_by other their_extents (dates_of other theirs)) theirs (k.0, renamed_statement m x.0.1) p.0 k.1 p.1),
+          p.2,
+        ))
     | inr b ↦ elim (in_either (extent_orders (length our_extents)) (date_orders (length (dates_of names ours) - 1)) o b) [
-        | inl c ↦ (
-            let e = in_extents (length our_extents) o c in
-            (record { low = Start (number_at e.0); high = End (number_at e.0); strict = true; by = Extent (number_at e.0) },
-             in_right (statement_orders other their_extents (dates_of other theirs) theirs) _ _ (in_left (extent_orders (length their_extents)) (date_orders (length (dates_of other theirs) - 1)) _
-               (extents_in (length their_extents) (number_at e.0) (number_within e.0 e.1))),
-             extent_moved e.0 o e.2))
-        | inr d ↦ (
-            let e = in_date_orders (length (dates_of names ours) - 1) o d in
-            (o, in_right (statement_orders other their_extents (dates_of other theirs) theirs) _ _ (in_right (extent_orders (length their_extents)) (date_orders (length (dates_of other theirs) - 1)) o
-               (subst (λ (ds : List ℤ). In o (date_orders (length ds - 1))) (sym (dates_same names other triples others m same)) d)),
-             date_moved e.0 o e.1))
-      ]
+      | inl c ↦ (
+          let e = in_extents (length our_extents) o c in (
+            record { low = Start (number_at e.0); high = End (number_at e.0); strict = true; by = Extent (number_at e.0) },
+            in_right (statement_orders other their_extents (dates_of other theirs) theirs) _ _ (in_left (extent_orders (length their_extents)) (date_orders (length (dates_of other theirs) - 1)) _
+                (extents_in (length their_extents) (number_at e.0) (number_within e.0 e.1))),
+            extent_moved e.0 o e.2,
+          ))
+      | inr d ↦ (
+          let e = in_date_orders (length (dates_of names ours) - 1) o d in (
+            o,
+            in_right (statement_orders other their_extents (dates_of other theirs) theirs) _ _ (in_right (extent_orders (length their_extents)) (date_orders (length (dates_of other theirs) - 1)) o
+                (subst (λ (ds : List ℤ). In o (date_orders (length ds - 1))) (sym (dates_same names other triples others m same)) d)),
+            date_moved e.0 o e.1,
+          ))
+    ]
   ]
     where
       extent_moved : (k : ℕ) (o : Order) → o ≡ record { low = Start k; high = End k; strict = true; by = Extent k }

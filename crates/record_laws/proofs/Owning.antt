@@ -1,7 +1,6 @@
 -- The faults of a triple that need no relation.
-use Rattle.std.proofs.Common.{◌≡◌, ℕ, Bool, true, false, ◌&&◌, not, cond, Option, Some, None, is_some, List, refl, sym, ap, ◌∙◌}
+use Rattle.std.proofs.Common.{◌≡◌, ℕ, Bool, true, false, ◌&&◌, not, cond, Option, Some, None, List, refl, sym, ap, ◌∙◌}
 use Rattle.std.specs.Prelude.{option_and_then, bytes_eq}
-use Rattle.std.specs.List.{list_any}
 use Rattle.rdf_terms.specs.declared.terms.Term.{Term}
 use Rattle.rdf_terms.specs.declared.terms.Triple.{Triple}
 use Rattle.rdf_terms.specs.declared.terms.Literal.{Literal}
@@ -91,7 +90,7 @@ module _ (names other : NameLists) (m : Term → Term) (is : Renames names other
           ap (λ (b : Bool). b && passes (λ c. e u.s (is_incompatible c)) (class_of other u.o)) (type_same t u r)
           ∙ ap (λ (o : Option ℕ). is_type names t && passes (λ c. e u.s (is_incompatible c)) o) (class_same t.o u.o r.o)
           ∙ ap (λ (b : Bool). is_type names t && b) (passes_same (λ c. e u.s (is_incompatible c)) (λ c. d t.s (is_incompatible c)) (class_of names t.o)
-            (λ c. ap (λ (x : Term). e x (is_incompatible c)) r.s ∙ declared t.s (is_incompatible c)))
+          (λ c. ap (λ (x : Term). e x (is_incompatible c)) r.s ∙ declared t.s (is_incompatible c)))
 
       c3_same : has_c3 other u ≡ has_c3 names t
       c3_same = rw (type_same t u r, property_same t.o u.o r.o) refl

@@ -1,13 +1,12 @@
 -- Full relations.
-use Rattle.std.proofs.Common.{◌≡◌, ℕ, ◌⊎◌, inl, inr, Bool, true, false, true≢false, ◌&&◌, cond, Option, Some, None, is_some, List, [], ◌∷◌, filter, refl, sym, ap, subst, ◌∙◌}
+use Rattle.std.proofs.Common.{◌≡◌, ℕ, inl, inr, Bool, true, false, true≢false, ◌&&◌, cond, Option, Some, None, List, [], ◌∷◌, filter, refl, sym, ap, subst, ◌∙◌}
 use Rattle.std.specs.Prelude.{◌==◌, ⊤}
 use Rattle.std.specs.Option.{option_map}
-use Rattle.std.specs.List.{list_any, IsDistinct, AllByRecursion}
+use Rattle.std.specs.List.{IsDistinct, AllByRecursion}
 use Rattle.rdf_terms.specs.declared.terms.Term.{Term}
 use Rattle.rdf_terms.specs.declared.terms.Triple.{Triple}
 use Rattle.rdf_terms.specs.Terms.{same_term, same_terms}
 use Rattle.rdf_terms.specs.Naming.{NameLists}
-use Rattle.rdf_terms.proofs.TermLemmas.{same_terms-true}
 use Rattle.crm_properties.specs.declared.Prop.{Prop}
 use Rattle.crm_properties.specs.PropertyNumbers.{is_typed_relation}
 use Rattle.crm_type_check.specs.declared.own.OwnFaults.{OwnFaults}
@@ -18,7 +17,7 @@ use Rattle.crm_type_check.specs.Meaning.{passes, property_of}
 use Rattle.crm_type_check.specs.Faults.{Declared, own_faults, is_sound}
 use Rattle.crm_type_check.specs.Relations.{has_property, occurrence, relation_by, relation_with}
 use Rattle.record_laws.specs.Renaming.{IsRenamed, renamed_relation}
-use Rattle.record_laws.proofs.OneWay.{Renames, OneWay}
+use Rattle.record_laws.proofs.OneWay.{OneWay}
 use Rattle.record_laws.proofs.Members.{In, goes, comes, same_terms-from}
 use Rattle.record_laws.proofs.Owning.{property_same, subject_same, own_same}
 
@@ -159,7 +158,7 @@ module _ (names other : NameLists) (triples others : List Triple) (m : Term → 
     with_same (Once f) (Once t) (Once k) (Once f') (Once t') (Once k') rf rt rk =
         when_same (is_sound (own_faults names d f) && is_sound (own_faults names d t)) (is_sound (own_faults other e f') && is_sound (own_faults other e t')) _ _
         (ap (λ (x : OwnFaults). is_sound x && is_sound (own_faults other e t')) (own_same names other m same.renaming d e declared f f' rf)
-         ∙ ap (λ (x : OwnFaults). is_sound (own_faults names d f) && is_sound x) (own_same names other m same.renaming d e declared t t' rt))
+        ∙ ap (λ (x : OwnFaults). is_sound (own_faults names d f) && is_sound x) (own_same names other m same.renaming d e declared t t' rt))
         (ap (λ (o : Option Prop). relation_by f' t' o) (property_same names other m same.renaming k.o k'.o rk.o) ∙ by_same f f' t t' (property_of names k.o) rf rt)
     with_same Absent t k Absent t' k' rf rt rk = refl
     with_same Repeated t k Repeated t' k' rf rt rk = refl

@@ -1,5 +1,5 @@
 -- Which nodes are extents, and which are periods.
-use Rattle.std.proofs.Common.{◌≡◌, ◌≢◌, ℕ, suc, ◌+◌, ◌≤◌, ◌⊎◌, inl, inr, Bool, true, false, true≢false, ◌&&◌, ◌||◌, not, cond, Option, Some, None, List, [], ◌∷◌, ◌++◌, map, refl, sym, ap, subst, ◌∙◌, arith}
+use Rattle.std.proofs.Common.{◌≡◌, ℕ, suc, ◌≤◌, inl, inr, Bool, true, false, true≢false, ◌&&◌, ◌||◌, not, cond, Option, Some, None, List, [], ◌∷◌, map, refl, sym, ap, ◌∙◌, arith}
 use Rattle.std.specs.Prelude.{◌==◌}
 use Rattle.std.specs.Option.{option_map}
 use Rattle.std.specs.List.{list_any, filter_map, flat_map, cons_option}
@@ -134,15 +134,15 @@ module _ (names : NameLists) (triples : List Triple) (S : Term × Bool → Bool)
           any_flat S (λ (s : ℕ × Statement). ends_of s.1) (statements_of names pairs faults)
           ∙ any_filtered (λ (s : ℕ × Statement). list_any S (ends_of s.1)) (statement_of names pairs faults) pairs
           ∙ any_within (λ p. passes (λ (s : ℕ × Statement). list_any S (ends_of s.1)) (statement_of names pairs faults p)) (λ p. stated_so p.1) pairs
-            (λ p h. ap (λ (b : Bool). passes (λ (s : ℕ × Statement). list_any S (ends_of s.1)) (cond b None (option_map (λ s. (p.0, s)) (meaning_of names pairs p.1)))) (faulty_is names triples p h)
-              ∙ numbered_statement (some_kind (kinds_of names pairs p.1)) p.0 (meaning_of names pairs p.1))
+          (λ p h. ap (λ (b : Bool). passes (λ (s : ℕ × Statement). list_any S (ends_of s.1)) (cond b None (option_map (λ s. (p.0, s)) (meaning_of names pairs p.1)))) (faulty_is names triples p h)
+          ∙ numbered_statement (some_kind (kinds_of names pairs p.1)) p.0 (meaning_of names pairs p.1))
           ∙ any_numbered stated_so 0 triples
 
       typed : list_any S (flat_map (by_type names faults) pairs) ≡ list_any typed_so triples
       typed =
           any_flat S (by_type names faults) pairs
           ∙ any_within (λ p. list_any S (by_type names faults p)) (λ p. typed_so p.1) pairs
-            (λ p h. ap (λ (b : Bool). list_any S (cond (b || not (is_type names p.1)) [] (by_class p.1.s (class_of names p.1.o)))) (faulty_is names triples p h))
+          (λ p h. ap (λ (b : Bool). list_any S (cond (b || not (is_type names p.1)) [] (by_class p.1.s (class_of names p.1.o)))) (faulty_is names triples p h))
           ∙ any_numbered typed_so 0 triples
 
 module _ (names other : NameLists) (triples others : List Triple) (m : Term → Term) (same : OneWay names triples other others m) where
@@ -184,8 +184,8 @@ module _ (names other : NameLists) (triples others : List Triple) (m : Term → 
   meaning_same t u r =
       ap (λ (b : Bool). cond b (by_relation (relation_of other (number_from 0 others) u.s)) (by_property u (property_of other u.p))) (relation_same names other m same.renaming t u r)
       ∙ by (makes_relation names t) _ _ _ _
-        (ap (λ (x : Term). by_relation (relation_of other (number_from 0 others) x)) r.s ∙ ap (λ (o : Option Relation). by_relation o) (full_relation_same names other triples others m same t.s) ∙ relation_meaning (relation_of names (number_from 0 triples) t.s))
-        (ap (λ (o : Option Prop). by_property u o) (property_same names other m same.renaming t.p u.p r.p) ∙ property_meaning t u (property_of names t.p) r)
+      (ap (λ (x : Term). by_relation (relation_of other (number_from 0 others) x)) r.s ∙ ap (λ (o : Option Relation). by_relation o) (full_relation_same names other triples others m same t.s) ∙ relation_meaning (relation_of names (number_from 0 triples) t.s))
+      (ap (λ (o : Option Prop). by_property u o) (property_same names other m same.renaming t.p u.p r.p) ∙ property_meaning t u (property_of names t.p) r)
     where
       by : (b : Bool) (x y x' y' : Option Statement) → x' ≡ option_map (renamed_statement m) x → y' ≡ option_map (renamed_statement m) y → cond b x' y' ≡ option_map (renamed_statement m) (cond b x y)
       by true x y x' y' p q = p

@@ -27,7 +27,7 @@ in_right (z ∷ zs) ys x h = inr (in_right zs ys x h)
 pub in_either : {X : Type 0} (xs ys : List X) (x : X) → In x (xs ++ ys) → In x xs ⊎ In x ys
 in_either [] ys x h = inr h
 in_either (z ∷ zs) ys x (inl e) = inl (inl e)
-in_either (z ∷ zs) ys x (inr h) = elim (in_either zs ys x h) [ | inl a ↦ inl (inr a) | inr b ↦ inr b ]
+in_either (z ∷ zs) ys x (inr h) = elim (in_either zs ys x h) [ inl a ↦ inl (inr a) | inr b ↦ inr b ]
 
 -- the same order between points that are moved
 pub record IsMoved (f : Point → Point) (o p : Order) : Type 0 where
@@ -50,11 +50,12 @@ module _ (f : Point → Point) (xs ys : List Order) (become : Become f xs ys) wh
   walk_becomes x y [] w = ([], ap f w, refl, refl)
   walk_becomes x y (n ∷ ns) w =
       let o = next n w.0 in
-      let r = walk_becomes (order_at xs n).high y ns w.2 in
-      (o.0 ∷ r.0,
-       (o.1, o.2.low ∙ ap f w.1, subst (λ (p : Point). IsWalk ys p (f y) r.0) (sym o.2.high) r.1),
-       ap (λ (k : ℕ). suc k) r.2,
-       ap (λ (b : Bool). b || shows_strict ys r.0) o.2.strict ∙ ap (λ (b : Bool). (order_at xs n).strict || b) r.3)
+      let r = walk_becomes (order_at xs n).high y ns w.2 in (
+        o.0 ∷ r.0,
+        (o.1, o.2.low ∙ ap f w.1, subst (λ (p : Point). IsWalk ys p (f y) r.0) (sym o.2.high) r.1),
+        ap (λ (k : ℕ). suc k) r.2,
+        ap (λ (b : Bool). b || shows_strict ys r.0) o.2.strict ∙ ap (λ (b : Bool). (order_at xs n).strict || b) r.3,
+      )
 
   chain_becomes : (x y : Point) (ns : List ℕ) → IsChain xs x y ns → (ks : List ℕ) × IsChain ys (f x) (f y) ks × (shows_strict ys ks ≡ shows_strict xs ns)
   chain_becomes x y ns c = let r = walk_becomes x y ns c.1 in (r.0, (omega (arith, c.0, r.2), r.1), r.3)

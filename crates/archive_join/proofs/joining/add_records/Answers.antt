@@ -1,9 +1,8 @@
-use Rattle.std.proofs.Common.{◌≡◌, ◌≤◌, ℕ, length, ◌+◌, arith, ap, subst, sym, ◌∙◌, Err, refl}
+use Rattle.std.proofs.Common.{◌≡◌, ℕ, ◌+◌, arith, subst, sym, ◌∙◌, refl}
 use Rattle.std.specs.Option.{option_map}
 use Rattle.std.proofs.Math.ListN.{drop_of_length-le}
 use Rattle.std.proofs.lemmas.Result.{err_from_is_err_and}
 use Rattle.crm_outside.proofs.Lists.{within}
-use Rattle.rdf_terms.specs.declared.terms.Refusal.{Refusal}
 use Rattle.archive_join.specs.declared.faults.JoinFault.{JoinFault}
 use Rattle.archive_join.specs.declared.faults.JoinFault.TheVariants.{Refused}
 use Rattle.archive_join.specs.Values.{value_triple}
@@ -29,14 +28,14 @@ pub loop-k-preserved : goal.loop-k-preserved
 loop-k-preserved c =
     subst (λ (n : ℕ). IsAdded c.args.shift.blanks c.args.shift.bytes c.args.file.now c.args.records.now c.add_triple.new.records c.add_triple.new.table (c.loop-k.k + 1) n) (sym c.in-Some-count_blanks.ensures)
     (added_one c.args.shift.blanks c.args.shift.bytes c.args.file.now c.args.records.now c.loop-k.records c.add_triple.new.records c.loop-k.table c.add_triple.new.table c.loop-k.k c.loop-k.blanks (behind_triple c.in-Some.triple)
-      c.in-Some.triple (sym c.get.ensures ∙ c.in-Some.is) c.loop-k.invariant c.in_ok-add_triple.ensures.added c.in_ok-add_triple.ensures.table c.in_ok-add_triple.ensures.few refl)
+    c.in-Some.triple (sym c.get.ensures ∙ c.in-Some.is) c.loop-k.invariant c.in_ok-add_triple.ensures.added c.in_ok-add_triple.ensures.table c.in_ok-add_triple.ensures.few refl)
 
 pub returns-clause-added : goal.returns-clause-added
 returns-clause-added c =
     (added_all c.args.shift.blanks c.args.shift.bytes c.args.file.now c.args.records.now c.loop-k.records c.loop-k.table c.loop-k.k c.loop-k.blanks
-      (drop_of_length-le c.args.file.now.triples (omega (arith, c.len-k-end.ensures.len, c.loop-k-test.false))) c.loop-k.invariant).0
+    (drop_of_length-le c.args.file.now.triples (omega (arith, c.len-k-end.ensures.len, c.loop-k-test.false))) c.loop-k.invariant).0
 
 pub returns-clause-blanks : goal.returns-clause-blanks
 returns-clause-blanks c =
     (added_all c.args.shift.blanks c.args.shift.bytes c.args.file.now c.args.records.now c.loop-k.records c.loop-k.table c.loop-k.k c.loop-k.blanks
-      (drop_of_length-le c.args.file.now.triples (omega (arith, c.len-k-end.ensures.len, c.loop-k-test.false))) c.loop-k.invariant).1
+    (drop_of_length-le c.args.file.now.triples (omega (arith, c.len-k-end.ensures.len, c.loop-k-test.false))) c.loop-k.invariant).1

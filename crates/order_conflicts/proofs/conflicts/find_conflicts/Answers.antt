@@ -13,3 +13,10 @@ pub returns-in-None : goal.returns-in-None
 returns-in-None c =
     let P : Orders → Type 0 = λ s. IsOrderSet s.list s.extents s.dates in
     conflicts_none c.args.analysis.now.set (subst P c.set.ensures c.conditions.ensures.orders) c.in-None.ensures.none
+
+pub returns-in_ok-suspects : goal.returns-in_ok-suspects
+returns-in_ok-suspects c =
+    let set = c.args.analysis.now.set in
+    let P : Orders → Type 0 = λ s. IsOrderSet s.list s.extents s.dates in
+    let cycle = cycle_found set c.in-Some.cycle.now ((c.computed_cycle_is_first.ensures set.list set.extents (length set.dates) c.in-Some.cycle.now).0 (sym c.in-Some.ensures.cycle)) in
+    rw (c.in_ok-tangles.ensures, c.in_ok-suspects.ensures) (conflicts_some set c.in-Some.cycle.now (subst P c.set.ensures c.conditions.ensures.orders) cycle)

@@ -10,13 +10,13 @@ loop-at-init g c = c.in_ok-found.ensures c.args.triple
 pub loop-at-preserved : goal.loop-at-preserved
 loop-at-preserved g c =
     search_more c.args.set.now c.args.triple (points_of c.args.set.now) c.args.from c.loop-at.found c.expand.new.found c.loop-at.at c.loop-at.invariant
-    (omega (arith, c.len-in-loop-at.ensures, c.loop-at-test.true)) c.in_ok-expand.ensures
+    (omega (arith, c.len.ensures, c.loop-at-test.true)) c.in_ok-expand.ensures
 
 pub loop-at-smaller : goal.loop-at-smaller
-loop-at-smaller g c = omega (arith, c.in_ok-expand.ensures.smaller, c.len-in-loop-at.ensures, c.loop-at-test.true)
+loop-at-smaller g c = omega (arith, c.in_ok-expand.ensures.smaller, c.len.ensures, c.loop-at-test.true)
 
 pub returns : goal.returns
 returns g c =
     let P : ℕ → Type 0 = λ k. IsSearching c.args.set.now c.args.triple (points_of c.args.set.now) c.args.from c.loop-at.found k in
-    let done : c.loop-at.at ≡ length c.loop-at.found.reached.items = omega (arith, c.loop-at.invariant.within, c.len-in-loop-at.ensures, c.loop-at-test.false) in
+    let done : c.loop-at.at ≡ length c.loop-at.found.reached.items = omega (arith, c.loop-at.invariant.within, c.len.ensures, c.loop-at-test.false) in
     subst P done c.loop-at.invariant

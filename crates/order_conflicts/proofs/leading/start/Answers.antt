@@ -1,4 +1,4 @@
-use Rattle.std.proofs.Common.{ℕ, Bool, List, false, replicate, length, ap, ◌∙◌, ◌+◌, ◌*◌, ◌≡◌, refl, arith}
+use Rattle.std.proofs.Common.{ℕ, Bool, List, [], false, replicate, length, ap, ◌∙◌, ◌+◌, ◌*◌, ◌≡◌, refl, arith}
 use Rattle.chain_certificate.specs.Routes.{points_of}
 use Rattle.order_conflicts.proofs.Searching.{empty_found}
 use Rattle.order_conflicts.proofs.leading.start.Goals as goal

@@ -1,4 +1,4 @@
-use Rattle.std.proofs.Common.{◌≤◌, arith}
+use Rattle.std.proofs.Common.{arith}
 use Rattle.archive_join.proofs.Tables.{blank_table}
 use Rattle.archive_join.proofs.table.NameTable.new.Goals as goal
 
