@@ -1,12 +1,10 @@
-// The dates around the boundaries of a file, and what is under way at an instant.
-ghost use Rattle.std.specs.Prelude.{pos, ◌^◌, ◌-ℤ◌, ◌<ℤ◌};
+// The dates around the boundaries of a file.
 ghost use Rattle.report_base.specs.Reports.{Writes};
 ghost use Rattle.dating_reports.specs.Bounds.{bounds_report};
-ghost use Rattle.dating_reports.specs.When.{when_report};
 
 use crm_core::{Archive, ReportFault, Status};
 use crm_outside::Sink;
-use dating_reports::{report_bounds, report_when};
+use dating_reports::report_bounds;
 use std::alloc::Global;
 
 /// Prints the orders, and then the cycle that no placing satisfies, or of each boundary the last date that it must come
@@ -22,21 +20,4 @@ pub fn write_bounds<W: Sink>(
     ensures { Writes W.written W.faults W.sure out.old out.new (bounds_report archive.now.records) result }
 {
     report_bounds(alloc, archive.records(), out)
-}
-
-/// Prints the extents, the instant in nanoseconds from 1970, and then the cycle that no placing satisfies, or of each period
-/// whether it is surely, never or maybe under way at the instant; where it is maybe, a placing of each kind.
-///
-/// `Findings` and `Refused` as with `write_bounds`.
-pub fn write_when<W: Sink>(
-    alloc: Global,
-    archive: &Archive,
-    t: i128,
-    out: &mut W,
-) -> Result<Status, ReportFault>
-    requires after { (pos 0 -ℤ pos (2 ^ 100)) <ℤ t }
-    requires before { t <ℤ pos (2 ^ 100) }
-    ensures { Writes W.written W.faults W.sure out.old out.new (when_report archive.now.records t) result }
-{
-    report_when(alloc, archive.records(), t, out)
 }

@@ -21,9 +21,6 @@ use Rattle.inference_reports.specs.Reasons.{status_when, reasons_report}
 use Rattle.record_reports.specs.RecordReports.{dossier_report}
 use Rattle.report_base.proofs.Limits.{few_of}
 use Rattle.dating_reports.specs.Bounds.{around_report, status_by as dating_status}
-use Rattle.order_conflicts.specs.declared.conflicts.Conflicts.{Conflicts}
-use Rattle.order_conflicts.specs.Conflicts.{conflicts_in}
-use Rattle.conflict_reports.specs.Texts.{outcome_status, told_report}
 use Rattle.crm_matrix.specs.MatrixTexts.{matrix_found, status_of}
 use Rattle.crm_core.specs.SampleReports.{sample_report, answer_report}
 use Rattle.crm_matrix.specs.Samples.{sample_file, sample_found}
@@ -76,13 +73,6 @@ bounds_status false e = findings e
 
 pub bounds_no_usage : (r : Records) → (within_limits (findings_from r) (around_report r.names (findings_from r))).status ≡ Usage → ⊥
 bounds_no_usage r e = limited (findings_from r) (around_report r.names (findings_from r)) (bounds_status (is_none (cycle_of (findings_from r).orders))) e
-
-conflicts_status : (o : Option Conflicts) → outcome_status o ≡ Usage → ⊥
-conflicts_status None e = done e
-conflicts_status (Some c) e = findings e
-
-pub conflicts_no_usage : (r : Records) → (within_limits (findings_from r) (told_report r)).status ≡ Usage → ⊥
-conflicts_no_usage r e = limited (findings_from r) (told_report r) (conflicts_status (conflicts_in (findings_from r).orders)) e
 
 sampled : (n : ℕ) (a : Answer) → (answer_report n a).status ≡ Usage → ⊥
 sampled n (Refuse code at) e = refused e

@@ -10,7 +10,6 @@ use Rattle.record_reports.specs.RecordReports.{orders_report, check_report, conv
 use Rattle.inference_reports.specs.Explained.{explain_report}
 use Rattle.inference_reports.specs.Reasons.{reason_report}
 use Rattle.dating_reports.specs.Bounds.{bounds_report}
-use Rattle.conflict_reports.specs.Texts.{conflicts_report}
 use Rattle.crm_matrix.specs.MatrixTexts.{matrix_report}
 use Rattle.crm_certify.specs.declared.kinds.CertKind.{CertKind}
 use Rattle.crm_certify.specs.declared.kinds.CertKind.TheVariants as kind
@@ -38,7 +37,6 @@ records_report (query.Certify k) r = certificate_report k r
 records_report query.Matrix r = Some (matrix_report r)
 records_report query.Convert r = Some (convert_report r)
 records_report query.Bounds r = Some (bounds_report r)
-records_report query.Conflicts r = Some (conflicts_report r)
 
 -- what the bytes of a name say with a base, where the name is held
 abbrev pub answer_at : Option (List ℕ) → List ℕ → Option (List ℕ) → Option Answer

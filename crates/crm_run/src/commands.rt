@@ -48,10 +48,6 @@ pub enum Command {
         base: Option<Text>,
         file: Text,
     },
-    Conflicts {
-        base: Option<Text>,
-        file: Text,
-    },
     /// Counts over the records of so many contexts, 1 to 999.
     Sample {
         n: u32,

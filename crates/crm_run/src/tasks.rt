@@ -18,7 +18,6 @@ pub enum Query {
     Matrix,
     Convert,
     Bounds,
-    Conflicts,
 }
 
 /// The files that a command reads, and what it does with them. The base is that of Turtle files.
@@ -61,7 +60,6 @@ pub fn task_of(command: Command) -> Task
         Command::Matrix { base, file } => (base, file, Query::Matrix),
         Command::Convert { base, file } => (base, file, Query::Convert),
         Command::Bounds { base, file } => (base, file, Query::Bounds),
-        Command::Conflicts { base, file } => (base, file, Query::Conflicts),
         Command::Verify { base, file, cert } => return Task::Verify { base, file, cert },
         Command::Sample { n } => return Task::Sample { n },
     };

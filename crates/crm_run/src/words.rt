@@ -23,7 +23,6 @@ pub enum CommandName {
     Matrix,
     Convert,
     Bounds,
-    Conflicts,
     Sample,
 }
 
@@ -40,7 +39,6 @@ fn command_named(word: &str) -> Option<CommandName>
         "matrix" => Some(CommandName::Matrix),
         "convert" => Some(CommandName::Convert),
         "bounds" => Some(CommandName::Bounds),
-        "conflicts" => Some(CommandName::Conflicts),
         "sample" => Some(CommandName::Sample),
         _ => None,
     }
@@ -141,7 +139,6 @@ fn file_command(name: CommandName, base: Option<Text>, file: Text) -> Option<Com
         CommandName::Matrix => Some(Command::Matrix { base, file }),
         CommandName::Convert => Some(Command::Convert { base, file }),
         CommandName::Bounds => Some(Command::Bounds { base, file }),
-        CommandName::Conflicts => Some(Command::Conflicts { base, file }),
         _ => None,
     }
 }
@@ -289,8 +286,7 @@ fn form(
         | CommandName::Reason
         | CommandName::Matrix
         | CommandName::Convert
-        | CommandName::Bounds
-        | CommandName::Conflicts => file_form(alloc, name, base, words),
+        | CommandName::Bounds => file_form(alloc, name, base, words),
     }
 }
 

@@ -1,12 +1,8 @@
-//! What the commands `bounds` and `when` print of records: the dates around each boundary, and which periods are under way
-//! at an instant.
+//! What the command `bounds` prints of records: the dates around each boundary.
 #![tactic(auto)]
 
 mod around;
 mod boundaries;
 mod dating;
-mod moments;
-mod under_way;
 
 pub use around::report_bounds;
-pub use under_way::report_when;

@@ -1,2 +1,0 @@
-pub mod BlankNames
-pub mod Within
