@@ -1,0 +1,48 @@
+#!/usr/bin/env bash
+# Draws the Harris matrix of the contexts of an archive, by their stratigraphy alone, as archaeologists draw it: a box for
+# each context, or for those that were made together; the latest on top; right angles; one rank for each level.
+#
+# usage: draw_matrix.sh FILE OUT.svg
+#
+# Wants crm_cli (or the variable CRM_CLI), awk and Graphviz' dot. Phases and dates play no part: only what is said of two
+# contexts does. Where the file is refused or contradicts itself, that is printed, and OUT.svg stays as it was.
+set -euo pipefail
+if [ $# -ne 2 ]; then
+    sed -n '2,7s/^# \?//p' "$0" >&2
+    exit 2
+fi
+program=${CRM_CLI:-crm_cli}
+room=$(mktemp -d)
+trap 'rm -rf "$room"' EXIT
+
+"$program" convert "$1" > "$room/all.nt" || { status=$?; cat "$room/all.nt" >&2; exit "$status"; }
+# what relates two events, what they produced, and their types
+grep -E ' <(urn:crmtime:[^>]*|[^>]*/AP7_[^>]*|[^>]*/AP7i_[^>]*)> | <urn:crmtime:Relation> \.$' "$room/all.nt" > "$room/some.nt" || true
+"$program" matrix "$room/some.nt" > "$room/matrix" || { status=$?; tail -n 2 "$room/matrix" >&2; exit "$status"; }
+awk '
+    # labels by node, from the triples; then the lines of the matrix
+    FNR == NR {
+        if ($2 == "<http://www.w3.org/2000/01/rdf-schema#label>") {
+            text = $0; sub(/^[^"]*"/, "", text); sub(/"[^"]*$/, "", text); label[$1] = text
+        }
+        next
+    }
+    FNR == 1 { print "digraph matrix {\n  rankdir=BT; splines=ortho; nodesep=0.3;\n  node [shape=box, fontname=\"sans-serif\", fontsize=10];\n  edge [dir=none];" }
+    /^x[0-9]+ unit / { unit[$1] = unit[$1] (unit[$1] == "" ? "" : "\\n") named($3) }
+    /^x[0-9]+ period / { name[$1] = $3 }
+    /^c[0-9]+ level / {
+        box = ""
+        for (i = 4; i <= NF; i++) box = box (box == "" ? "" : "\\n") (unit[$i] == "" ? named(name[$i]) : unit[$i])
+        print "  " $1 " [label=\"" box "\"];"
+        level[$3] = level[$3] " " $1 ";"
+    }
+    /^c[0-9]+ c[0-9]+$/ { print "  " $1 " -> " $2 ";" }
+    END { for (k in level) print "  { rank=same;" level[k] " }"; print "}" }
+    function named(term) {
+        if (term in label) return label[term]
+        sub(/^<.*[\/#]/, "", term); sub(/>$/, "", term)
+        return term
+    }
+' "$room/all.nt" "$room/matrix" > "$room/matrix.dot"
+dot -Tsvg "$room/matrix.dot" > "$room/matrix.svg"
+mv "$room/matrix.svg" "$2"
