@@ -26,6 +26,9 @@ file_command_sound name.Check base file h = (h, tt)
 file_command_sound name.Reason base file h = (h, tt)
 file_command_sound name.Matrix base file h = (h, tt)
 file_command_sound name.Convert base file h = (h, tt)
+file_command_sound name.Bounds base file h = (h, tt)
+file_command_sound name.Legacy base file h = (h, tt)
+file_command_sound name.Allen base file h = (h, tt)
 file_command_sound other base file h = tt
 
 file_sound : (n : CommandName) (base : Option (List ℕ)) (words : List (List ℕ)) → IsBase base → Sound (file_form n base words)

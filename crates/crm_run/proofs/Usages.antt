@@ -20,6 +20,9 @@ use Rattle.report_base.specs.Reports.{Report, IsEnding, status_by, faults_in, fi
 use Rattle.inference_reports.specs.Reasons.{status_when, reasons_report}
 use Rattle.record_reports.specs.RecordReports.{dossier_report}
 use Rattle.report_base.proofs.Limits.{few_of}
+use Rattle.rdf_terms.specs.declared.terms.Refusal.{Refusal}
+use Rattle.crm_legacy.specs.Modern.{modern_of}
+use Rattle.allen_reports.specs.Reports.{of_modern, lines_report, relations_report, table_report, status_by as allen_status}
 use Rattle.dating_reports.specs.Bounds.{around_report, status_by as dating_status}
 use Rattle.crm_matrix.specs.MatrixTexts.{matrix_found, status_of}
 use Rattle.crm_core.specs.SampleReports.{sample_report, answer_report}
@@ -73,6 +76,21 @@ bounds_status false e = findings e
 
 pub bounds_no_usage : (r : Records) → (within_limits (findings_from r) (around_report r.names (findings_from r))).status ≡ Usage → ⊥
 bounds_no_usage r e = limited (findings_from r) (around_report r.names (findings_from r)) (bounds_status (is_none (cycle_of (findings_from r).orders))) e
+
+of_modern_no_usage : (p : Records → Report) → ((m : Records) → (p m).status ≡ Usage → ⊥) → (o : Result Records Refusal) → (of_modern p o).status ≡ Usage → ⊥
+of_modern_no_usage p h (Ok m) e = h m e
+of_modern_no_usage p h (Err f) e = refused e
+
+pub legacy_no_usage : (r : Records) → (of_modern lines_report (modern_of r)).status ≡ Usage → ⊥
+legacy_no_usage r e = of_modern_no_usage lines_report (λ m d. done d) (modern_of r) e
+
+relations_status : (o : Option (List ℕ)) → allen_status o ≡ Usage → ⊥
+relations_status None e = done e
+relations_status (Some cycle) e = findings e
+
+pub allen_no_usage : (r : Records) → (of_modern table_report (modern_of r)).status ≡ Usage → ⊥
+allen_no_usage r e =
+    of_modern_no_usage table_report (λ m d. limited (findings_from m) (relations_report m.names (findings_from m)) (relations_status (cycle_of (findings_from m).orders)) d) (modern_of r) e
 
 sampled : (n : ℕ) (a : Answer) → (answer_report n a).status ≡ Usage → ⊥
 sampled n (Refuse code at) e = refused e

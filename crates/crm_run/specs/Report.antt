@@ -9,6 +9,7 @@ use Rattle.report_base.specs.Reports.{Report}
 use Rattle.record_reports.specs.RecordReports.{orders_report, check_report, convert_report, refusal_report}
 use Rattle.inference_reports.specs.Explained.{explain_report}
 use Rattle.inference_reports.specs.Reasons.{reason_report}
+use Rattle.allen_reports.specs.Reports.{allen_report, legacy_report}
 use Rattle.dating_reports.specs.Bounds.{bounds_report}
 use Rattle.crm_matrix.specs.MatrixTexts.{matrix_report}
 use Rattle.crm_certify.specs.declared.kinds.CertKind.{CertKind}
@@ -37,6 +38,8 @@ records_report (query.Certify k) r = certificate_report k r
 records_report query.Matrix r = Some (matrix_report r)
 records_report query.Convert r = Some (convert_report r)
 records_report query.Bounds r = Some (bounds_report r)
+records_report query.Legacy r = Some (legacy_report r)
+records_report query.Allen r = Some (allen_report r)
 
 -- what the bytes of a name say with a base, where the name is held
 abbrev pub answer_at : Option (List ℕ) → List ℕ → Option (List ℕ) → Option Answer

@@ -3,7 +3,7 @@ use Rattle.std.specs.Prelude.{◌≢◌, List, ℕ, Option, Some, None, IfSome, 
 use Rattle.std.specs.Option.{option_map}
 use Rattle.iri_resolve.specs.Splitting.{has_scheme}
 use Rattle.crm_run.specs.declared.commands.Command.{Command}
-use Rattle.crm_run.specs.declared.commands.Command.TheVariants.{Orders, Check, Reason, Explain, Certify, Verify, Matrix, Convert, Bounds, Sample}
+use Rattle.crm_run.specs.declared.commands.Command.TheVariants.{Orders, Check, Reason, Explain, Certify, Verify, Matrix, Convert, Bounds, Legacy, Allen, Sample}
 use Rattle.crm_run.specs.declared.tasks.Query.{Query}
 use Rattle.crm_run.specs.declared.tasks.Query.TheVariants as query
 use Rattle.crm_run.specs.declared.tasks.Task.{Task}
@@ -21,6 +21,8 @@ task_of (Verify base file cert) = task.Verify base file cert
 task_of (Matrix base file) = task.Report base file query.Matrix
 task_of (Convert base file) = task.Report base file query.Convert
 task_of (Bounds base file) = task.Report base file query.Bounds
+task_of (Legacy base file) = task.Report base file query.Legacy
+task_of (Allen base file) = task.Report base file query.Allen
 task_of (Sample n) = task.Sample n
 
 -- what the words ask for, where they have a form

@@ -13,7 +13,7 @@ use Rattle.crm_certify.specs.declared.kinds.CertKind.TheVariants as kind
 use Rattle.crm_run.specs.declared.words.CommandName.{CommandName}
 use Rattle.crm_run.specs.declared.words.CommandName.TheVariants as name
 use Rattle.crm_run.specs.declared.commands.Command.{Command}
-use Rattle.crm_run.specs.declared.commands.Command.TheVariants.{Orders, Check, Reason, Explain, Certify, Verify, Matrix, Convert, Bounds, Sample}
+use Rattle.crm_run.specs.declared.commands.Command.TheVariants.{Orders, Check, Reason, Explain, Certify, Verify, Matrix, Convert, Bounds, Legacy, Allen, Sample}
 
 abbrev pub command_named : List ℕ → Option CommandName
 command_named word =
@@ -26,6 +26,8 @@ command_named word =
     if bytes_eq word (codes "matrix") then Some name.Matrix else
     if bytes_eq word (codes "convert") then Some name.Convert else
     if bytes_eq word (codes "bounds") then Some name.Bounds else
+    if bytes_eq word (codes "legacy") then Some name.Legacy else
+    if bytes_eq word (codes "allen") then Some name.Allen else
     if bytes_eq word (codes "sample") then Some name.Sample else None
 
 abbrev pub kind_named : List ℕ → Option CertKind
@@ -70,6 +72,8 @@ file_command name.Reason base file = Some (Reason base file)
 file_command name.Matrix base file = Some (Matrix base file)
 file_command name.Convert base file = Some (Convert base file)
 file_command name.Bounds base file = Some (Bounds base file)
+file_command name.Legacy base file = Some (Legacy base file)
+file_command name.Allen base file = Some (Allen base file)
 file_command other base file = None
 
 abbrev pub file_form : CommandName → Option (List ℕ) → List (List ℕ) → Option Command

@@ -48,6 +48,16 @@ pub enum Command {
         base: Option<Text>,
         file: Text,
     },
+    /// The triples in today's properties.
+    Legacy {
+        base: Option<Text>,
+        file: Text,
+    },
+    /// The possible relations of each two periods.
+    Allen {
+        base: Option<Text>,
+        file: Text,
+    },
     /// Counts over the records of so many contexts, 1 to 999.
     Sample {
         n: u32,

@@ -13,7 +13,7 @@ use crm_core::{
     Archive, ReportFault, Status, write_certificate, write_check, write_convert, write_explain,
     write_matrix, write_orders, write_reason,
 };
-use crm_extra::write_bounds;
+use crm_extra::{write_allen, write_bounds, write_legacy};
 use crm_outside::{Shelf, Sink, Text};
 use std::alloc::Global;
 
@@ -41,6 +41,8 @@ fn write_report<W: Sink>(
         Query::Matrix => write_matrix(alloc, archive, out),
         Query::Convert => write_convert(alloc, archive, out),
         Query::Bounds => write_bounds(alloc, archive, out),
+        Query::Legacy => write_legacy(alloc, archive, out),
+        Query::Allen => write_allen(alloc, archive, out),
     }
 }
 

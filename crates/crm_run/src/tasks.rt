@@ -18,6 +18,8 @@ pub enum Query {
     Matrix,
     Convert,
     Bounds,
+    Legacy,
+    Allen,
 }
 
 /// The files that a command reads, and what it does with them. The base is that of Turtle files.
@@ -60,6 +62,8 @@ pub fn task_of(command: Command) -> Task
         Command::Matrix { base, file } => (base, file, Query::Matrix),
         Command::Convert { base, file } => (base, file, Query::Convert),
         Command::Bounds { base, file } => (base, file, Query::Bounds),
+        Command::Legacy { base, file } => (base, file, Query::Legacy),
+        Command::Allen { base, file } => (base, file, Query::Allen),
         Command::Verify { base, file, cert } => return Task::Verify { base, file, cert },
         Command::Sample { n } => return Task::Sample { n },
     };

@@ -23,6 +23,8 @@ pub enum CommandName {
     Matrix,
     Convert,
     Bounds,
+    Legacy,
+    Allen,
     Sample,
 }
 
@@ -39,6 +41,8 @@ fn command_named(word: &str) -> Option<CommandName>
         "matrix" => Some(CommandName::Matrix),
         "convert" => Some(CommandName::Convert),
         "bounds" => Some(CommandName::Bounds),
+        "legacy" => Some(CommandName::Legacy),
+        "allen" => Some(CommandName::Allen),
         "sample" => Some(CommandName::Sample),
         _ => None,
     }
@@ -139,6 +143,8 @@ fn file_command(name: CommandName, base: Option<Text>, file: Text) -> Option<Com
         CommandName::Matrix => Some(Command::Matrix { base, file }),
         CommandName::Convert => Some(Command::Convert { base, file }),
         CommandName::Bounds => Some(Command::Bounds { base, file }),
+        CommandName::Legacy => Some(Command::Legacy { base, file }),
+        CommandName::Allen => Some(Command::Allen { base, file }),
         _ => None,
     }
 }
@@ -286,7 +292,9 @@ fn form(
         | CommandName::Reason
         | CommandName::Matrix
         | CommandName::Convert
-        | CommandName::Bounds => file_form(alloc, name, base, words),
+        | CommandName::Bounds
+        | CommandName::Legacy
+        | CommandName::Allen => file_form(alloc, name, base, words),
     }
 }
 

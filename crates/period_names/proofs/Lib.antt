@@ -1,0 +1,2 @@
+pub mod BlankNames
+pub mod Within
