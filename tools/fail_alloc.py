@@ -21,7 +21,8 @@ import tempfile
 from cases import FULL, ROOT, SECONDS, laid_out, read, steps_of
 
 # Cases of which each command is tried: a context before another, its certificate, a diamond, and incompatible classes.
-WHOLE = ["context_before_another", "certificate_of_orders", "matrix_of_a_diamond", "certificate_of_classes", "examples_of_the_readme"]
+WHOLE = """context_before_another certificate_of_orders matrix_of_a_diamond certificate_of_classes
+    examples_of_the_readme""".split()
 MEMORY = 6
 # The number of an allocation that never comes.
 NEVER = 1 << 62
@@ -33,7 +34,8 @@ SHIM = r"""
 #include <sys/mman.h>
 #include <unistd.h>
 
-void *__libc_malloc(size_t), *__libc_calloc(size_t, size_t), *__libc_realloc(void *, size_t), *__libc_memalign(size_t, size_t);
+void *__libc_malloc(size_t), *__libc_calloc(size_t, size_t);
+void *__libc_realloc(void *, size_t), *__libc_memalign(size_t, size_t);
 
 /* How many allocations came, and the first and the last that fails. */
 static unsigned long count, *shown = &count, first, last;
@@ -83,8 +85,10 @@ class Command:
         with tempfile.NamedTemporaryFile(prefix="count-") as counter:
             counter.write(bytes(8))
             counter.flush()
-            outside = {"LD_PRELOAD": self.library, "FAIL_COUNT": counter.name, "FAIL_FIRST": str(first), "FAIL_LAST": str(last)}
-            came = subprocess.run(self.words, input=self.given, capture_output=True, cwd=self.folder, env=outside, timeout=SECONDS)
+            outside = {"LD_PRELOAD": self.library, "FAIL_COUNT": counter.name}
+            outside.update(FAIL_FIRST=str(first), FAIL_LAST=str(last))
+            options = {"capture_output": True, "cwd": self.folder, "env": outside, "timeout": SECONDS}
+            came = subprocess.run(self.words, input=self.given, **options)
             return came.returncode, came.stdout + came.stderr, int.from_bytes(read(counter.name), sys.byteorder)
 
     def fault(self, numbers):
@@ -96,9 +100,10 @@ class Command:
             return f"no end after {SECONDS} seconds"
         if count < first:
             return f"memory was asked for {count} times"
-        if (status, text) == (self.status, self.text) or status == MEMORY and self.text.startswith(text):
+        is_front = self.text.startswith(text)
+        if (status, text) == (self.status, self.text) or status == MEMORY and is_front:
             return None
-        return f"status {status} after {len(text)} bytes" + ("" if self.text.startswith(text) else ", which are no front of the text")
+        return f"status {status} after {len(text)} bytes" + ("" if is_front else ", which are no front of the text")
 
 
 def spread(count, most):
@@ -119,15 +124,15 @@ def chosen(names):
     for name in names or WHOLE + sorted(set(os.listdir(f"{ROOT}/tests")) - set(WHOLE)):
         steps = [step for step in steps_of(read(f"{ROOT}/tests/{name}/commands")) if are_tried(step)]
         if not names and name not in WHOLE:
-            first = {step.words[0]: step for step in reversed(steps) if step.status < 2 and step.words[0] not in known}
-            known.update(first)
-            steps = list(first.values())
+            new = [step for step in steps if step.status < 2 and step.words[0] not in known]
+            steps = list({step.words[0]: step for step in reversed(new)}.values())
+            known.update(step.words[0] for step in steps)
         if steps:
             yield name, steps
 
 
 def try_commands(pool, program, library, most, name, steps):
-    """Tries these commands of a case, says what is wrong, and gives for each how many allocations and runs were tried, and how many were wrong."""
+    """Tries these commands of a case, says what is wrong, and gives for each the count of allocations, runs and wrong ones."""
     with laid_out(name) as (folder, _):
         for step in steps:
             command = Command(program, library, folder, step)
@@ -137,16 +142,19 @@ def try_commands(pool, program, library, most, name, steps):
             for (first, last), fault in zip(tries, pool.map(command.fault, tries)):
                 if fault:
                     wrong += 1
-                    how = "alone" if first == last else "and all behind it"
-                    print(f"tests/{name}/commands:{step.number}: {step.line}, allocation {first} {how}: {fault}", flush=True)
+                    how = f"allocation {first} " + ("alone" if first == last else "and all behind it")
+                    print(f"tests/{name}/commands:{step.number}: {step.line}, {how}: {fault}", flush=True)
             yield len(numbers), len(tries), wrong
 
 
 def main(options):
     program = os.path.abspath(options.program)
-    with tempfile.TemporaryDirectory(prefix="refuses-") as room, concurrent.futures.ThreadPoolExecutor(os.cpu_count()) as pool:
+    pool = concurrent.futures.ThreadPoolExecutor(os.cpu_count())
+    with tempfile.TemporaryDirectory(prefix="refuses-") as room, pool:
         library = build(room)
-        found = [tried for name, steps in chosen(options.name) for tried in try_commands(pool, program, library, options.most, name, steps)]
+        found = []
+        for name, steps in chosen(options.name):
+            found += try_commands(pool, program, library, options.most, name, steps)
     numbers, runs, wrong = map(sum, zip(*found))
     print(f"{len(found)} commands, {numbers} allocations refused, in {runs} runs, {wrong} wrong")
     return 1 if wrong or not runs else 0
