@@ -23,16 +23,21 @@ def whole(term):
     return f"<{PREFIXES[key]}{local}>" if local else f"<{TYPE}>"
 
 
+def turtle(subjects):
+    """The lines of Turtle, a subject in each."""
+    yield HEAD
+    for subject, pairs in subjects:
+        text, before = subject, None
+        for verb, thing in pairs:
+            mark = "" if before is None else " ;\n "
+            text += f" , {thing}" if verb == before else f"{mark} {verb} {thing}"
+            before = verb
+        yield text + " .\n"
+
+
 def write_turtle(path, subjects):
     with open(path, "w", encoding="utf-8") as file:
-        file.write(HEAD)
-        for subject, pairs in subjects:
-            text, before = subject, None
-            for verb, thing in pairs:
-                mark = "" if before is None else " ;\n "
-                text += f" , {thing}" if verb == before else f"{mark} {verb} {thing}"
-                before = verb
-            file.write(text + " .\n")
+        file.writelines(turtle(subjects))
 
 
 def write_ntriples(path, subjects):
@@ -140,16 +145,48 @@ def fill(path, head, piece="", tail=""):
         file.write(tail)
 
 
-# the parts of each hostile file
-HOSTILE = {
-    '64 MiB of `"`': ("", '"'),
-    "64 MiB of `;`": ("<a:s> <a:p> <a:o> ", ";", " .\n"),
-    "64 MiB of one comment": ("# ", "fill of a pit ", "\n"),
-    "64 MiB of `@prefix` over one another": ("", f"@prefix ex: <{BASE}> .\n"),
-    "64 MiB of nests of 128": ("", "<a:s> <a:p> " + "[ <a:p> " * 128 + "<a:o>" + " ]" * 128 + " .\n"),
-    "one subject with 262,143 objects": (HEAD + "ex:phase a crm:E4_Period ; crm:P9_consists_of " + " , ".join(f"_:b{k}" for k in range(262143)) + " .\n",),
-    "references with 20,000 `../`": (f"@base <{BASE}> .\n", f"<{'../' * 20000}s> <a:p> <a:o> .\n"),
-    "a reference with 60,000 `../`": (f"@base <{BASE}> .\n", f"<{'../' * 60000}s> <a:p> <a:o> .\n"),
-    "25 bases of 40,000 bytes, 1,000 triples": (f"@base <{BASE}> .\n" + f"@base <{'pit/' * 10000}> .\n" * 25 +
-                                               "".join(f"<s{k}> <p> <o{k}> .\n" for k in range(1000)),),
-}
+def bases(count, triples):
+    """References that a base of so many bases, each set on the one before, makes ever longer."""
+    return (f"@base <{BASE}> .\n" + f"@base <{'pit/' * 10000}> .\n" * count + "".join(f"<s{k}> <p> <o{k}> .\n" for k in range(triples)),)
+
+
+def equal_starts(extents=2048, orders=65536):
+    """As many extents and orders as are taken, in one loop of `<=`: each event starts no later than the next ones, round and round."""
+    after = "crm:P175_starts_before_or_with_the_start_of"
+    for k in range(extents):
+        yield f"ex:genesis-{k}", [(after, f"ex:genesis-{(k + j) % extents}") for j in range(1, orders // extents)]
+
+
+def halved(joins):
+    """A tree of the order o0 alone, with so many joins one in the other and two equal trees in each."""
+    tree = "o0"
+    for _ in range(joins):
+        tree = f"j({tree},{tree})"
+    return tree
+
+
+def hostile_archives():
+    """The parts of each archive that is made to take long."""
+    yield '64 MiB of `"`', ("", '"')
+    yield "64 MiB of `[`", ("", "[")
+    yield "64 MiB of `;`", ("<a:s> <a:p> <a:o> ", ";", " .\n")
+    yield "64 MiB of one comment", ("# ", "fill of a pit ", "\n")
+    yield "64 MiB of `@prefix` over one another", ("", f"@prefix ex: <{BASE}> .\n")
+    yield "64 MiB of nests of 128", ("", "<a:s> <a:p> " + "[ <a:p> " * 128 + "<a:o>" + " ]" * 128 + " .\n")
+    objects = " , ".join(f"_:b{k}" for k in range(262143))
+    yield "one subject with 262,143 objects", (f"{HEAD}ex:phase a crm:E4_Period ; crm:P9_consists_of {objects} .\n",)
+    yield "references with 20,000 `../`", (f"@base <{BASE}> .\n", f"<{'../' * 20000}s> <a:p> <a:o> .\n")
+    yield "a reference with 60,000 `../`", (f"@base <{BASE}> .\n", f"<{'../' * 60000}s> <a:p> <a:o> .\n")
+    yield "25 bases of 40,000 bytes, 1,000 triples", bases(25, 1000)
+    yield "25 bases of 40,000 bytes, 10,000 triples", bases(25, 10000)
+    yield "32 MB of bases of 40,000 bytes", bases(800, 1)
+
+
+def hostile_orders():
+    yield "one loop of 65,536 `<=` over 2,048 extents", ("".join(turtle(equal_starts())),)
+
+
+def hostile_certificates():
+    """The parts of each certificate of an event that starts before it starts."""
+    yield "a certificate of 50 MB with one tree", (f"crmtime 1 orders\ncycle {halved(23)}\nend\n",)
+    yield "a certificate of 64 MiB with one `let` that all others cite", ("crmtime 2 orders\nlet j(o0,o0)\n", "let j(l0,l0)\n", "cycle l0\nend\n")

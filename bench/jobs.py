@@ -131,17 +131,26 @@ class Bench:
     def hostile(self):
         if not self.wants("hostile"):
             return
-        honest = self.best([self.our(["check", "sheets.ttl"], "out")])[0].seconds / os.path.getsize("sheets.ttl")
-        for title, parts in archives.HOSTILE.items():
-            archives.fill("hostile.ttl", *parts)
-            size = os.path.getsize("hostile.ttl")
-            ours = self.best([self.our(["check", "hostile.ttl"], "out", 30, self.options.memory)], 1)[0]
+        node = archives.BASE + "genesis-"
+        archives.fill("circle.nt", f"<a:x> <{archives.CIDOC}cidoc-crm/P176> <a:x> .\n")
+        self.attacks(["check", "sheets.ttl"], ["check", "hostile"], archives.hostile_archives())
+        self.attacks(["explain", "limits.ttl", f"{node}2047", "P182", f"{node}0"], ["explain", "hostile", f"{node}0", "P182", f"{node}1"], archives.hostile_orders())
+        self.attacks(["verify", "small.ttl", "small.cert"], ["verify", "circle.nt", "hostile"], archives.hostile_certificates())
+
+    def attacks(self, honest_words, words, files):
+        """Times the words at each hostile file, beside the seconds a byte of the words at an honest one."""
+        command, name = words[0], max(filter(os.path.exists, honest_words), key=os.path.getsize)
+        honest = self.best([self.our(honest_words, "out")])[0].seconds / os.path.getsize(name)
+        for title, parts in files:
+            archives.fill("hostile", *parts)
+            size = os.path.getsize("hostile")
+            ours = self.best([self.our(words, "out", 30, self.options.memory)], 1)[0]
             with open("out", encoding="utf-8") as out:
                 said = out.readline().strip()
             share = None if ours.status > 2 else ours.seconds / size
             wanted = [("3 a byte", lambda share, _: share <= 3 * honest), ("1.5 GB", lambda share, peak: share is not None and peak <= 1.5e9)]
-            self.row(f"hostile: {title}", size_text(size), f"`{said}`" if said else "nothing", str(ours), size_text(ours.peak),
-                     f"`check` of turtle, {honest * 1e9:.1f} ns a byte", self.ratio(share, honest), "", "", self.verdicts(wanted, [share, ours.peak]))
+            self.row(f"hostile: `{command}`, {title}", size_text(size), f"`{said}`" if said else "nothing", str(ours), size_text(ours.peak),
+                     f"`{command}` of {name}, {honest * 1e9:.1f} ns a byte", self.ratio(share, honest), "", "", self.verdicts(wanted, [share, ours.peak]))
 
 
 def read_words():

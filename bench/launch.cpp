@@ -1,6 +1,7 @@
-// Runs a program, ends it after so many seconds, and writes to standard error its seconds by the clock, those of the
-// processor, the greatest memory that it held in KiB, and its status, 137 where it was ended; the program's own standard
-// error goes nowhere. A program that the benchmark's Python started itself would be said to have held what Python held.
+// Runs a program, ends it after so many seconds of the processor, or ten times as many by the clock, and writes to standard
+// error its seconds by the clock, those of the processor, the greatest memory that it held in KiB, and its status, 137 where
+// it was ended; the program's own standard error goes nowhere. A program that the benchmark's Python started itself would be
+// said to have held what Python held.
 #include <chrono>
 #include <csignal>
 #include <cstdio>
@@ -26,13 +27,16 @@ int main(int count, char **words) {
         rlim_t bytes = std::strtoull(words[1], nullptr, 10);
         rlimit limit{bytes, bytes};
         if (bytes) setrlimit(RLIMIT_AS, &limit);
+        rlim_t most = std::strtoull(words[2], nullptr, 10);
+        rlimit busy{most, most};
+        setrlimit(RLIMIT_CPU, &busy);
         dup2(open("/dev/null", O_WRONLY), 2);
         execvp(words[3], words + 3);
         _exit(127);
     }
     if (child < 0) return 1;
     setpgid(child, child);
-    alarm(std::atoi(words[2]));
+    alarm(10 * std::atoi(words[2]));
     int status = 0;
     rusage usage{};
     while (wait4(child, &status, 0, &usage) < 0) {}

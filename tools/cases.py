@@ -15,14 +15,20 @@ typed and what must be printed, whole:
     $ convert - <1,7 trench.nt                         the same, then in pieces of 1 byte and in pieces of 7: each is
                                                        written once the program has taken the one before
     $ certify matrix trench.ttl > trench.certificate   what must be printed is in a file; to /dev/full, nothing is
+    $ reason trench.ttl | head -2                      the pipe is closed behind so many lines
+    $ check - <&-                                      standard input is closed; with >&- standard output
+    $ check late.ttl >< late.ttl                       the file loses what is not read yet, once some of it is
     $ check faults.ttl
     faults 1
     [1]                                                the exit status, where it is not 0
+
+What comes on standard error counts as printed.
 
 A case runs in a temporary copy of its folder, which holds the folder examples/ too. A file `make.py` in it runs there
 first: it writes the files that are too large to keep, or too many.
 """
 import concurrent.futures
+import contextlib
 import difflib
 import os
 import re
@@ -33,11 +39,13 @@ import sys
 import tempfile
 
 from cuts import cut, run
+from edges import SECONDS, at_edge
 
 ROOT = os.path.dirname(os.path.dirname(os.path.realpath(__file__)))
-SECONDS = 300
 # The device that takes nothing.
 FULL = "/dev/full"
+# The end of a line by which the machine gives or takes less than it might.
+EDGE = re.compile(r"(.*) (<&-|>&-|\| head -[0-9]+|>< \S+)")
 # The lines of a difference that are shown.
 SHOWN = 40
 
@@ -52,6 +60,8 @@ class Step:
 
     def __init__(self, number, line):
         self.number, self.line, self.status, self.output = number, line, 0, []
+        edge = EDGE.fullmatch(line)
+        line, self.edge = edge.groups() if edge else (line, None)
         self.words, self.given, self.sizes, self.printed = shlex.split(line), None, [], None
         while len(self.words) > 1 and re.fullmatch(r">|<[0-9,]*", self.words[-2]):
             sign, name = self.words[-2:]
@@ -70,11 +80,15 @@ class Step:
     def ways(self, program, folder):
         """Gives each way in which the input is handed over, with the status and the output that came."""
         words = [program, *map(os.fsencode, self.words)]
+        if self.edge:
+            with open(f"{folder}/{self.given}" if self.given else os.devnull, "rb") as file:
+                yield "", at_edge(words, folder, self.edge, file)
+            return
         given = b"" if self.given is None else read(f"{folder}/{self.given}")
         with open(FULL, "wb") as full:
             out = full if self.printed == FULL else subprocess.PIPE
-            whole = subprocess.run(words, input=given, stdout=out, cwd=folder, timeout=SECONDS)
-        yield "", (whole.returncode, whole.stdout or b"")
+            whole = subprocess.run(words, input=given, stdout=out, stderr=subprocess.PIPE, cwd=folder, timeout=SECONDS)
+        yield "", (whole.returncode, (whole.stdout or b"") + whole.stderr)
         for size in self.sizes:
             yield f", in pieces of {size}", run(words, cut(given, size), folder)
 
@@ -105,16 +119,22 @@ def difference(wanted, came):
     return lines
 
 
-def try_case(program, name):
-    """Returns how many commands of the case were tried, and what is said of those that failed."""
-    said = []
+@contextlib.contextmanager
+def laid_out(name):
+    """Gives a copy of the case's folder, with all the files that its commands read, and its commands."""
     with tempfile.TemporaryDirectory(prefix="case-") as room:
         folder = f"{room}/{name}"
         shutil.copytree(f"{ROOT}/tests/{name}", folder)
         os.symlink(f"{ROOT}/examples", f"{folder}/examples")
         if os.path.exists(f"{folder}/make.py"):
             subprocess.run([sys.executable, "make.py"], cwd=folder, check=True, timeout=SECONDS)
-        steps = steps_of(read(f"{folder}/commands"))
+        yield folder, steps_of(read(f"{folder}/commands"))
+
+
+def try_case(program, name):
+    """Returns how many commands of the case were tried, and what is said of those that failed."""
+    said = []
+    with laid_out(name) as (folder, steps):
         for step in steps:
             wanted, head = step.wanted(folder), f"tests/{name}/commands:{step.number}: {step.line}"
             try:

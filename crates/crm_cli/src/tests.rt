@@ -1,5 +1,7 @@
-// What only a call can show: devices that fail, and what was read and written by then.
+// What only a call can show: devices that fail, and what was read and written by then; links; limits.
 mod devices;
+mod limits;
+mod links;
 
 use crm_core::Status;
 use crm_outside::{Bytes, FileEntry, FileList, MemShelf, MemSink, Numbers, Text};
