@@ -12,8 +12,11 @@ import re
 import subprocess
 import sys
 
+from table_of_dates import calendar
+
 LABEL, COMMENT = (f"<http://www.w3.org/2000/01/rdf-schema#{word}>" for word in ("label", "comment"))
-WORDS = {"s": "the start of {}", "e": "the end of {}"}
+FORMER = {"s": "{} had begun", "e": "{} was over", "d": "{} had come"}
+LATTER = {"s": "{} began", "e": "{} ended", "d": "{} came"}
 
 
 def printed(command, name):
@@ -28,12 +31,13 @@ def printed(command, name):
 class Archive:
     def __init__(self, name):
         self.triples = [line[:-2].split(" ", 2) for line in printed("convert", name)]
-        self.orders = {}
-        self.extents = {}
+        self.extents, self.dates, self.orders = {}, {}, {}
         for line in printed("orders", name):
             words = line.split(" ")
             if words[0][0] == "x":
                 self.extents[words[0][1:]] = words[2]
+            elif re.fullmatch(r"d\d+", words[0]):
+                self.dates[words[0]] = calendar(int(words[1]))
             elif re.fullmatch(r"o\d+", words[0]):
                 self.orders[words[0]] = words[1:]
         self.cycle = next((line.split(" ")[1:] for line in printed("matrix", name) if line.startswith("cycle ")), None)
@@ -49,18 +53,19 @@ class Archive:
     def named(self, node):
         return self.text(node, LABEL) or re.sub(r".*[/#]", "", node).rstrip(">")
 
-    def point(self, point):
-        return WORDS[point[0]].format(self.named(self.extents[point[1:]])) if point[0] in WORDS else f"date {point}"
+    def point(self, point, words):
+        return words[point[0]].format(self.dates[point] if point[0] == "d" else self.named(self.extents[point[1:]]))
 
     def said(self, order):
+        """An order in words, with the triple that makes it and the record that is cited; an extent's own order goes unsaid."""
         low, sign, high, by = self.orders[order]
         if by[0] == "x":
             return None
+        said = f"{self.point(low, FORMER)} {'before' if sign == '<' else 'when'} {self.point(high, LATTER)}"
         if by == "dates":
-            return f"{self.point(low)} is before {self.point(high)}"
-        subject = self.triples[int(by[1:])][0]
-        source = self.text(subject, COMMENT)
-        return f"{self.point(low)} {'before' if sign == '<' else 'before or at'} {self.point(high)}: triple {by[1:]}" + (f", {source}" if source else "")
+            return said
+        source = self.text(self.triples[int(by[1:])][0], COMMENT)
+        return f"{said} (triple {by[1:]}{'; ' + source if source else ''})"
 
 
 def main():

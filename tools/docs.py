@@ -2,7 +2,7 @@
 """Runs what the documents show on the shipped files, and compares what comes with what they show.
 
 usage: docs.py --check [PROGRAM [DOCUMENT..]]    exits 1 where a document shows something else
-       docs.py --show PROGRAM DOCUMENT           prints each command with what it prints, for whoever writes the document
+       docs.py --fill PROGRAM DOCUMENT..         writes what comes into the `output` blocks that are empty
 
 A document is Markdown. In it, behind three backquotes, stand
 
@@ -18,7 +18,8 @@ A document is Markdown. In it, behind three backquotes, stand
     turtle                   must have no fault behind the prefixes that the guide shows whole
 
 The commands of a document share one folder, a copy of the repository without crates and tests, so a file that one
-writes is there for the next. Beside that: each link to a file or heading must lead somewhere, a command of `crm_cli` may
+writes is there for the next. A picture that they draw must have the boxes and lines of that of the same name in docs/. Beside
+that: each link to a file or heading must lead somewhere, a command of `crm_cli` may
 stand in no other block, and each form of words in docs/FORMATS.md must be one for the program and stand in README.md.
 """
 import difflib
@@ -156,7 +157,19 @@ def check_document(program, name, forms):
             wrong = judged(room, block, after, prefixes)
             said += [[head, *wrong]] if wrong else []
             passed += block.language in ("bash", "turtle") and not wrong
+        said += pictures(room, name)
     return passed, said
+
+
+def boxes_in(picture):
+    with open(picture, encoding="utf-8") as file:
+        return sorted(re.findall(r"<title>.*</title>|>[^<>]+</text>", file.read()))
+
+
+def pictures(room, name):
+    """Says which pictures of docs/ have other boxes or lines than those that the commands drew."""
+    drawn = [picture for picture in sorted(os.listdir(room.folder)) if os.path.exists(f"{ROOT}/docs/{picture}") and picture.endswith(".svg")]
+    return [[name, f"docs/{picture} is another picture"] for picture in drawn if boxes_in(f"{room.folder}/{picture}") != boxes_in(f"{ROOT}/docs/{picture}")]
 
 
 def is_form(block, forms):
@@ -196,25 +209,33 @@ def check_forms(program, forms):
     return said
 
 
-def show(program, name):
+def fill(program, name):
+    """Writes what the commands of a document print into the empty blocks behind them."""
+    blocks, lines = blocks_of(read(name)), read(name).split("\n")
+    filled = []
     with tempfile.TemporaryDirectory(prefix="docs-") as folder:
         room = Room(folder, program)
-        for block in blocks_of(read(name)):
+        for block, after in zip(blocks, [*blocks[1:], None]):
             if block.kind == "to":
                 judged(room, block, None, "")
             elif block.language == "bash" and block.kind != "aside":
-                status, came = room.run(block.text)
-                print(f"{name}:{block.line}: status {status}\n{block.text}--\n{came}")
+                _, came = room.run(block.text)
+                if after and after.language == "output" and not after.text.strip():
+                    filled.append((after, came))
+    for block, came in reversed(filled):
+        lines[block.line : block.line + block.text.count("\n")] = came.splitlines()
+    with open(f"{ROOT}/{name}", "w", encoding="utf-8") as file:
+        file.write("\n".join(lines))
 
 
 def main(words):
-    if not words or words[0] not in ("--check", "--show"):
+    if not words or words[0] not in ("--check", "--fill"):
         sys.exit(__doc__)
     program = os.path.abspath(words[1] if len(words) > 1 else f"{ROOT}/crates/crm_cli/out/crm_cli")
     if not os.access(program, os.X_OK):
         sys.exit(f"{program} is no program")
-    if words[0] == "--show":
-        return [show(program, name) for name in words[2:]] and 0
+    if words[0] == "--fill":
+        return 0 if [fill(program, name) for name in words[2:]] else 1
     forms, tried, said = forms_in(read("docs/FORMATS.md")), 0, []
     for name in words[2:] or DOCUMENTS:
         passed, wrong = check_document(program, name, forms)
