@@ -5,8 +5,8 @@
 # usage: draw_matrix.sh FILE OUT.svg
 #
 # Wants crm_cli (or the variable CRM_CLI), awk and Graphviz' dot. Phases and dates play no part: only what is said of two
-# contexts does. Where the file is refused or contradicts itself, that is said with the program's status, and where there is
-# no dot, `draw_matrix: no dot` with status 3; OUT.svg stays as it was.
+# contexts is drawn. Where the file is refused or contradicts itself, dates and all, that is said with the program's status,
+# and where there is no dot, `draw_matrix: no dot` with status 3; OUT.svg stays as it was.
 set -euo pipefail
 if [ $# -ne 2 ]; then
     sed -n '2,9s/^# \?//p' "$0" >&2
@@ -20,10 +20,16 @@ program=${CRM_CLI:-crm_cli}
 room=$(mktemp -d)
 trap 'rm -rf "$room"' EXIT
 
-"$program" convert "$1" > "$room/all.nt" || { status=$?; cat "$room/all.nt" >&2; exit "$status"; }
+refuse() { # refuse STATUS LISTING
+    if [ "$1" -eq 1 ]; then echo "draw_matrix: $file contradicts itself" >&2; else cat "$2" >&2; fi
+    exit "$1"
+}
+file=$1
+"$program" convert "$file" > "$room/all.nt" || refuse $? "$room/all.nt"
+"$program" matrix "$file" > "$room/matrix" || refuse $? "$room/matrix"
 # what relates two events, what they produced, and which produced contexts
 grep -E ' <(urn:crmtime:[^>]*|[^>]*/AP7i?(_[^>]*)?)> | <(urn:crmtime:Relation|[^>]*/A4(_[^>]*)?)> \.$' "$room/all.nt" > "$room/some.nt" || true
-"$program" matrix "$room/some.nt" > "$room/matrix" || { status=$?; tail -n 2 "$room/matrix" >&2; exit "$status"; }
+"$program" matrix "$room/some.nt" > "$room/matrix" || refuse $? "$room/matrix"
 awk '
     # labels by node, from the triples; then the lines of the matrix
     FNR == NR {

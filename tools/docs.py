@@ -184,8 +184,9 @@ def anchors_of(name):
 
 def check_links(name):
     """Says which links of a document lead nowhere."""
-    said = []
-    for target, anchor in re.findall(r"\]\(([^)#\s]*)(?:#([^)\s]*))?\)", read(name)):
+    said, text = [], read(name)
+    links = re.findall(r"\]\(([^)#\s]*)(?:#([^)\s]*))?\)", text) + re.findall(r'(?:src|href)="([^"#]*)(?:#([^"]*))?"', text)
+    for target, anchor in links:
         path = os.path.normpath(os.path.join(os.path.dirname(name), target)) if target else name
         if target.startswith("http"):
             continue
