@@ -173,7 +173,7 @@ def pictures(room, name):
 
 
 def is_form(block, forms):
-    return any(block.text.startswith(f"crm_cli {form.words}") or block.text.startswith(f"crm_cli {form.name} ") and "  " in block.text for form in forms)
+    return any(block.text.startswith(f"crm_cli {form.name} ") and form.said in block.text for form in forms)
 
 
 def anchors_of(name):
@@ -203,7 +203,12 @@ def check_forms(program, forms):
     for form in forms:
         for words in {form.words, form.words.replace("[--base IRI] ", "")}:
             typed = [WORDS.get(word.strip("[]"), word.strip("[]")) for word in words.split()]
-            if subprocess.run([program, *typed], cwd=ROOT, stdout=subprocess.DEVNULL).returncode == 3:
+            unknown = [word for word in typed if re.fullmatch(r"[A-Z]+", word)]
+            if unknown:
+                said.append(["tools/docs.py", f"WORDS has nothing for {unknown[0]}"])
+                continue
+            done = subprocess.run([program, *typed], cwd=ROOT, stdin=subprocess.DEVNULL, stdout=subprocess.DEVNULL, timeout=SECONDS)
+            if done.returncode == 3:
                 said.append(["docs/FORMATS.md", f"no form of words: {words}"])
         if f"`crm_cli {form.words.replace('[--base IRI] ', '')}`" not in readme:
             said.append(["README.md", f"no line for {form.words}"])
