@@ -5,7 +5,7 @@ usage: crm_cli convert FILE | stable_names.py
 
 A relation is named by its two ends and its type, so a changed comment changes one line; any other blank node by all that is
 said of it, with other blank nodes left out. Two nodes of which the same is said get one name: this is for `diff`, not for an
-archive.
+archive. What is no list of triples, as a refusal, is said with status 1.
 """
 import hashlib
 import sys
@@ -14,9 +14,10 @@ ENDS = {f"<urn:crmtime:relation-{word}>" for word in ("from", "to", "type")}
 
 
 def main():
-    triples = [line[:-2].split(" ", 2) for line in sys.stdin.read().splitlines()]
-    if any(len(triple) < 3 for triple in triples):
-        sys.exit("no triples: " + " ".join(triples[0]))
+    lines = sys.stdin.read().splitlines()
+    if not all(line.endswith(" .") for line in lines):
+        sys.exit("no triples: " + lines[0])
+    triples = [line[:-2].split(" ", 2) for line in lines]
     said = {}
     for subject, predicate, end in triples:
         for node, way, other in ((subject, predicate, end), (end, "^" + predicate, subject)):

@@ -6,6 +6,10 @@
 # Wants crm_cli (or the variable CRM_CLI) and awk. Where the file is refused or contradicts itself, that is said on the
 # error output, nothing is printed, and the status is that of the program.
 set -euo pipefail
+if [ $# -ne 1 ]; then
+    sed -n '2,7s/^# \?//p' "$0" >&2
+    exit 3
+fi
 program=${CRM_CLI:-crm_cli}
 room=$(mktemp -d)
 trap 'rm -rf "$room"' EXIT
