@@ -5,20 +5,31 @@
 # usage: draw_matrix.sh FILE OUT.svg
 #
 # Wants crm_cli (or the variable CRM_CLI), awk and Graphviz' dot. Phases and dates play no part: only what is said of two
-# contexts does. Where the file is refused or contradicts itself, that is printed, and OUT.svg stays as it was.
+# contexts is drawn. Where the file is refused or contradicts itself, dates and all, that is said with the program's status,
+# and where there is no dot, `draw_matrix: no dot` with status 3; OUT.svg stays as it was.
 set -euo pipefail
 if [ $# -ne 2 ]; then
-    sed -n '2,7s/^# \?//p' "$0" >&2
-    exit 2
+    sed -n '2,9s/^# \?//p' "$0" >&2
+    exit 3
+fi
+if ! command -v dot > /dev/null; then
+    echo "draw_matrix: no dot: install Graphviz" >&2
+    exit 3
 fi
 program=${CRM_CLI:-crm_cli}
 room=$(mktemp -d)
 trap 'rm -rf "$room"' EXIT
 
-"$program" convert "$1" > "$room/all.nt" || { status=$?; cat "$room/all.nt" >&2; exit "$status"; }
-# what relates two events, what they produced, and their types
-grep -E ' <(urn:crmtime:[^>]*|[^>]*/AP7_[^>]*|[^>]*/AP7i_[^>]*)> | <urn:crmtime:Relation> \.$' "$room/all.nt" > "$room/some.nt" || true
-"$program" matrix "$room/some.nt" > "$room/matrix" || { status=$?; tail -n 2 "$room/matrix" >&2; exit "$status"; }
+refuse() { # refuse STATUS LISTING
+    if [ "$1" -eq 1 ]; then echo "draw_matrix: $file contradicts itself" >&2; else cat "$2" >&2; fi
+    exit "$1"
+}
+file=$1
+"$program" convert "$file" > "$room/all.nt" || refuse $? "$room/all.nt"
+"$program" matrix "$file" > "$room/matrix" || refuse $? "$room/matrix"
+# what relates two events, what they produced, and which produced contexts
+grep -E ' <(urn:crmtime:[^>]*|[^>]*/AP7i?(_[^>]*)?)> | <(urn:crmtime:Relation|[^>]*/A4(_[^>]*)?)> \.$' "$room/all.nt" > "$room/some.nt" || true
+"$program" matrix "$room/some.nt" > "$room/matrix" || refuse $? "$room/matrix"
 awk '
     # labels by node, from the triples; then the lines of the matrix
     FNR == NR {
@@ -27,7 +38,7 @@ awk '
         }
         next
     }
-    FNR == 1 { print "digraph matrix {\n  rankdir=BT; splines=ortho; nodesep=0.3;\n  node [shape=box, fontname=\"sans-serif\", fontsize=10];\n  edge [dir=none];" }
+    FNR == 1 { print "digraph matrix {\n  rankdir=BT; splines=ortho; nodesep=0.3; ranksep=0.25;\n  node [shape=box, height=0.3, fontname=\"sans-serif\", fontsize=10];\n  edge [dir=none];" }
     /^x[0-9]+ unit / { unit[$1] = unit[$1] (unit[$1] == "" ? "" : "\\n") named($3) }
     /^x[0-9]+ period / { name[$1] = $3 }
     /^c[0-9]+ level / {
