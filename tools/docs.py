@@ -38,7 +38,8 @@ LINKED = [*DOCUMENTS, "docs/PROFILE.md", "docs/ARCHITECTURE.md", "docs/PROMISES.
 SHIPPED = ["README.md", "docs", "examples", "tools", "bench"]
 SECONDS = 60
 # What stands for a word of a form when the program is asked whether it is one.
-WORDS = {"FILE": "examples/trench.nt", "CERT": "examples/trench.nt", "IRI": "http://e/", "N": "3", "KIND": "classes", "CODE": "P182",
+WORDS = {"FILE": "examples/trench.nt", "CERT": "examples/trench.nt", "IRI": "http://e/", "N": "3", "KIND": "classes", "CODE": "P182", "DATE": "1401",
+         "REPORT": "check", "..": "examples/contradiction.ttl", "COMMAND": "orders",
          "A": "http://dig.example/trench-4/digging-of-pit", "B": "http://dig.example/trench-4/filling-of-pit"}
 
 

@@ -11,10 +11,11 @@ use Rattle.rdf_terms.specs.declared.terms.Triple.{Triple}
 use Rattle.rdf_terms.specs.declared.triples.Records.{Records}
 use Rattle.rdf_terms.specs.Naming.{NameLists}
 use Rattle.archive_join.specs.declared.faults.JoinFault.TheVariants.{Refused}
-use Rattle.archive_join.specs.declared.table.NameTable.{NameTable}
-use Rattle.archive_join.specs.Values.{ValueTriple, AreFew, IsFirstPast, IsPast, value_triple, value_triples, with_values, with_all}
-use Rattle.archive_join.specs.Joining.{moved, triples_behind, blank_count, behind_triple}
-use Rattle.archive_join.specs.Named.{IsTable, IsPastWith, with_option}
+use Rattle.joined_names.specs.declared.table.NameTable.{NameTable}
+use Rattle.joined_names.specs.Values.{ValueTriple, value_triple, value_triples, with_values, with_all, moved}
+use Rattle.archive_join.specs.Limits.{AreFew, IsFirstPast, IsPast, IsPastWith, with_option}
+use Rattle.archive_join.specs.Joining.{triples_behind, blank_count, behind_triple}
+use Rattle.joined_names.specs.Named.{IsTable}
 
 -- what triples say, behind so many blank nodes and bytes
 abbrev pub behind : ℕ → ℕ → NameLists → List Triple → List ValueTriple

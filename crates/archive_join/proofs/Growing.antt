@@ -5,9 +5,10 @@ use Rattle.rdf_terms.specs.declared.terms.Triple.{Triple}
 use Rattle.rdf_terms.specs.declared.triples.Records.{Records}
 use Rattle.rdf_terms.specs.Naming.{NameLists, name_count, has_iri, has_literal}
 use Rattle.rdf_terms.specs.Terms.{is_held, with_triple, triple_of}
-use Rattle.archive_join.specs.Values.{Value, ValueTriple, AreFew, IsFirstPast, names_with, names_with_three, terms_of, with_values, with_all}
-use Rattle.archive_join.specs.Values.Value.{Iri, Blank, Lit}
-use Rattle.archive_join.proofs.Renumbering.{with_new}
+use Rattle.joined_names.specs.Values.{Value, ValueTriple, names_with, names_with_three, terms_of, with_values, with_all}
+use Rattle.archive_join.specs.Limits.{AreFew, IsFirstPast}
+use Rattle.joined_names.specs.Values.Value.{Iri, Blank, Lit}
+use Rattle.joined_names.proofs.Renumbering.{with_new}
 
 longer : {X : Type 0} (b : Bool) (xs : List X) (y : X) → length xs ≤ length (with_new b xs y)
 longer true xs y = omega arith
@@ -24,11 +25,11 @@ three_names names x = omega (arith, more_names names x.s, more_names (names_with
 more_triples : (triples : List Triple) (t : Triple) → length triples ≤ length (with_triple triples t)
 more_triples triples t = longer (is_held triples t) triples t
 
-record IsBelow (r q : Records) : Type 0 where
+pub record IsBelow (r q : Records) : Type 0 where
   pub names : name_count r.names ≤ name_count q.names
   pub triples : length r.triples ≤ length q.triples
 
-all_grow : (r : Records) (xs : List ValueTriple) → IsBelow r (with_all r xs)
+pub all_grow : (r : Records) (xs : List ValueTriple) → IsBelow r (with_all r xs)
 unfolding with_all
 all_grow r [] = record { names = omega arith; triples = omega arith }
 all_grow r (x ∷ xs) =
@@ -43,7 +44,7 @@ unfolding with_all
 with_all_append r [] ys = refl
 with_all_append r (x ∷ xs) ys = with_all_append (with_values r x) xs ys
 
-with_all_cons : (r : Records) (x : ValueTriple) (xs : List ValueTriple) → with_all r (x ∷ xs) ≡ with_all (with_values r x) xs
+pub with_all_cons : (r : Records) (x : ValueTriple) (xs : List ValueTriple) → with_all r (x ∷ xs) ≡ with_all (with_values r x) xs
 unfolding with_all
 with_all_cons r x xs = refl
 

@@ -1,4 +1,3 @@
-pub mod Renumbering
-pub mod Tables
 pub mod Adding
 pub mod Growing
+pub mod Past

@@ -5,8 +5,7 @@ use Rattle.rdf_terms.specs.declared.terms.Term.{Term}
 use Rattle.rdf_terms.specs.declared.terms.Term.TheVariants as term
 use Rattle.rdf_terms.specs.declared.terms.Triple.{Triple}
 use Rattle.rdf_terms.specs.declared.triples.Records.{Records}
-use Rattle.archive_join.specs.Values.{Value, ValueTriple, value_triples, with_all}
-use Rattle.archive_join.specs.Values.Value.{Iri, Blank, Lit}
+use Rattle.joined_names.specs.Values.{ValueTriple, moved, value_triples, with_all}
 
 -- what was joined: the records, the bytes and the blank nodes of all files, and how many these are
 pub record Joined : Type 0 where
@@ -17,16 +16,6 @@ pub record Joined : Type 0 where
 
 abbrev pub nothing : Joined
 nothing = record { records = record { names = record { iris = []; literals = [] }; triples = [] }; length = 0; blanks = 0; count = 0 }
-
--- A blank node is told from those of the files before by its number.
-abbrev pub moved_value : ℕ → Value → Value
-moved_value blanks (Iri text) = Value.Iri text
-moved_value blanks (Blank n) = Value.Blank (n + blanks)
-moved_value blanks (Lit value) = Value.Lit value
-
--- behind so many blank nodes and bytes
-abbrev pub moved : ℕ → ℕ → ValueTriple → ValueTriple
-moved blanks length x = record { s = moved_value blanks x.s; p = moved_value blanks x.p; o = moved_value blanks x.o; at = x.at + length }
 
 -- the first number above those of the blank nodes: how many these are, since those of a file are numbered from 0
 abbrev pub behind_term : Term → ℕ

@@ -1,5 +1,4 @@
 pub mod Archives
 pub mod Joining
-pub mod Named
+pub mod Limits
 pub mod Refusals
-pub mod Values

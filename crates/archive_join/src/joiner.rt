@@ -1,7 +1,7 @@
 // Files that are joined one behind another.
 ghost use Rattle.std.specs.Prelude.{◌≡◌, IfOk, Err};
 ghost use Rattle.rdf_terms.specs.declared.terms.Refusal.{Refusal};
-ghost use Rattle.archive_join.specs.Values.{AreFew, IsFirstPast};
+ghost use Rattle.archive_join.specs.Limits.{AreFew, IsFirstPast};
 ghost use Rattle.archive_join.specs.Joining.{nothing, triples_behind};
 ghost use Rattle.archive_join.specs.Archives.{contents, with_file};
 
@@ -24,7 +24,7 @@ pub struct Joiner {
 
 impl Model for Joiner {
     ghost use Rattle.archive_join.specs.Joining.{Joined};
-    ghost use Rattle.archive_join.specs.Values.{AreFew};
+    ghost use Rattle.archive_join.specs.Limits.{AreFew};
 
     ghost Value = { Joined };
 

@@ -2,15 +2,15 @@
 ghost use Rattle.std.specs.Prelude.{◌≡◌, IfOk, IfErr, IfSome, OnOk, max};
 ghost use Rattle.std.specs.Option.{option_map};
 ghost use Rattle.rdf_terms.specs.declared.terms.Refusal.{Refusal};
-ghost use Rattle.archive_join.specs.Values.{AreFew, IsFirstPast, value_triple, with_all};
+ghost use Rattle.joined_names.specs.Values.{value_triple, with_all, moved};
+ghost use Rattle.archive_join.specs.Limits.{AreFew, IsFirstPast, IsPastWith, with_option};
 ghost use Rattle.archive_join.specs.Joining as spec;
-ghost use Rattle.archive_join.specs.Joining.{blank_count, moved, triples_behind};
-ghost use Rattle.archive_join.specs.Named as named;
-ghost use Rattle.archive_join.specs.Named.{IsTable, IsPastWith, with_option};
+ghost use Rattle.archive_join.specs.Joining.{blank_count, triples_behind};
+ghost use Rattle.archive_join.specs.Limits as limits;
+ghost use Rattle.joined_names.specs.Named.{IsTable};
 
 use crate::JoinFault;
-use crate::named::named_triple;
-use crate::table::NameTable;
+use joined_names::{NameTable, named_triple};
 use rdf_terms::{Code, NameFault, Names, Records, Refusal, Term, Triple, TripleFault};
 use std::alloc::Global;
 
@@ -22,7 +22,7 @@ pub(crate) struct Shift {
 }
 
 fn name_fault(fault: NameFault, at: u64) -> JoinFault
-    ensures { result ≡ named.name_fault fault at }
+    ensures { result ≡ limits.name_fault fault at }
 {
     match fault {
         NameFault::TooMany => JoinFault::Refused(Refusal { code: Code::L5, at }),
@@ -31,7 +31,7 @@ fn name_fault(fault: NameFault, at: u64) -> JoinFault
 }
 
 fn triple_fault(fault: TripleFault, at: u64) -> JoinFault
-    ensures { result ≡ named.triple_fault fault at }
+    ensures { result ≡ limits.triple_fault fault at }
 {
     match fault {
         TripleFault::TooMany => JoinFault::Refused(Refusal { code: Code::L4, at }),

@@ -5,9 +5,7 @@ mod faults;
 mod joiner;
 mod joining;
 pub mod laws;
-mod named;
 mod refusals;
-mod table;
 
 pub use faults::JoinFault;
 pub use joiner::Joiner;

@@ -10,8 +10,8 @@ use Rattle.order_laws.specs.Placings.{IsSatisfied, position_at}
 use Rattle.order_laws.specs.Tables.{IsOrderSet}
 use Rattle.order_laws.proofs.Hold.{never_before_self}
 use Rattle.order_core.specs.Sets.{Orders}
-use Rattle.certificate_reader.specs.declared.order_lines.Side.{Side}
-use Rattle.certificate_reader.specs.declared.order_lines.Side.TheVariants.{StartEnd, StartStart, EndStart, EndEnd}
+use Rattle.order_core.specs.declared.sides.Side.{Side}
+use Rattle.order_core.specs.declared.sides.Side.TheVariants.{StartEnd, StartStart, EndStart, EndEnd}
 use Rattle.certificate_reader.specs.declared.order_lines.Question.{Question}
 use Rattle.certificate_reader.specs.declared.order_lines.Claim.{Claim}
 use Rattle.certificate_reader.specs.declared.order_lines.Claim.TheVariants.{Before, AtOrBefore, Open}

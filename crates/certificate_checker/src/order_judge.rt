@@ -5,37 +5,31 @@ ghost use Rattle.order_laws.specs.Positions.{IsBefore};
 ghost use Rattle.proof_core.specs.Proofs.{node_count};
 ghost use Rattle.certificate_reader.specs.declared.order_lines.OrderLine.{OrderLine as Line};
 ghost use Rattle.certificate_reader.specs.OrderTexts.{claim_nodes, order_line_nodes};
-ghost use Rattle.certificate_checker.specs.Questions.{left_point, right_point, questions, questions_left, IsSettled};
+ghost use Rattle.certificate_checker.specs.Questions.{left_of, right_of, questions, questions_left, IsSettled};
 ghost use Rattle.certificate_checker.specs.OrderClaims.{fact_of, placing_at, IsOfSet, IsTrueFact, IsClaimTrue, IsJudged, IsLast, IsNext, IsRefuted};
 ghost use Rattle.certificate_checker.specs.Verified.{verdict_of, IsOrdersShown};
 ghost use Rattle.certificate_checker.specs.Texts.{Body, ClaimLine, IsAccepted, IsOfLine, IsRefusedAs};
 
 use crate::cursor::Cursor;
-use crate::trees::{bad_node, check_names, concluded, ended, misfit};
+use crate::trees::{bad_node, check_names, concluded, ended, misfit, renew};
 use crate::{CertRefusal, OrderFact, OrderTheory, Verdict};
 use certificate_reader::{
-    Claim, Known, Notes, OrderLeaves, OrderLine, OrderProof, Question, Side, read_order_line,
+    Claim, Known, Notes, OrderLeaves, OrderLine, OrderProof, Question, read_order_line,
 };
 use order_core::{OrderSet, Placing, Point, Position, holds_at};
 use proof_core::{KeepFault, Shared};
 use std::alloc::Global;
 
 fn left(question: Question) -> Point
-    ensures { result ≡ left_point question }
+    ensures { result ≡ left_of question }
 {
-    match question.side {
-        Side::StartEnd | Side::StartStart => Point::Start(question.first),
-        Side::EndStart | Side::EndEnd => Point::End(question.first),
-    }
+    question.side.left(question.first)
 }
 
 fn right(question: Question) -> Point
-    ensures { result ≡ right_point question }
+    ensures { result ≡ right_of question }
 {
-    match question.side {
-        Side::StartStart | Side::EndStart => Point::Start(question.second),
-        Side::StartEnd | Side::EndEnd => Point::End(question.second),
-    }
+    question.side.right(question.second)
 }
 
 fn is_before(p: Position, q: Position) -> bool
@@ -306,9 +300,10 @@ pub(crate) fn judge_orders(
     ensures refused { IfErr result (λ e. IsRefusedAs (Body (ClaimLine (cond shares (Some 0) None))) 64 text.now from e) }
 {
     let mut judge = OrderJudge::new(alloc, orders, periods);
+    let mut notes = Notes::new(alloc);
     let mut at = from;
     'lines: loop {
-        let mut notes = Notes::new(alloc);
+        renew(&mut notes);
         let known = judge.known(orders, shares);
         let line = read_order_line(alloc, &known, text, at, &mut notes)?;
         if !judge.is_due(periods, &line.value) {

@@ -1,5 +1,5 @@
 // What trees conclude, and the places of what is wrong with them.
-ghost use Rattle.std.specs.Prelude.{◌≡◌, ◌<◌, ◌≤◌, ◌^◌, None, IfOk, IfErr, OnOk, length, ℕ};
+ghost use Rattle.std.specs.Prelude.{◌≡◌, ◌<◌, ◌≤◌, ◌^◌, [], None, IfOk, IfErr, OnOk, length, ℕ};
 ghost use Rattle.proof_core.specs.Proofs.{Concludes, node_count};
 ghost use Rattle.certificate_trees.specs.declared.refusals.CertRefusal.TheVariants.{K1};
 ghost use Rattle.certificate_checker.specs.Texts.{IsOfLine};
@@ -43,6 +43,15 @@ pub(crate) fn misfit(places: &[usize]) -> CertRefusal
         Some(place) => CertRefusal::K4(*place as u64),
         None => CertRefusal::K4(0),
     }
+}
+
+/// Makes of notes those of nothing; their room serves the next line.
+pub(crate) fn renew(notes: &mut Notes)
+    ensures unknown { notes.new.unknown ≡ None }
+    ensures places { notes.new.places.items ≡ [] }
+{
+    notes.unknown = None;
+    notes.places.clear();
 }
 
 /// K3 where a name was noted that nothing has.

@@ -13,7 +13,8 @@ use Rattle.certificate_reader.specs.declared.order_lines.Claim.TheVariants.{Befo
 use Rattle.certificate_reader.specs.declared.order_lines.OrderLine.{OrderLine}
 use Rattle.certificate_reader.specs.declared.order_lines.OrderLine.TheVariants.{Place, Let, Pair, Cycle, End}
 use Rattle.certificate_reader.specs.declared.order_lines.Known.{Known}
-use Rattle.certificate_reader.specs.OrderTexts.{positions_text, side_text}
+use Rattle.order_core.specs.Sides.{side_name}
+use Rattle.certificate_reader.specs.OrderTexts.{positions_text}
 
 -- a tree over orders and what is kept, of which so many are there
 abbrev pub order_tree_part : Known → Proof (SharedLeaf ℕ) Weaken Join → Part
@@ -22,7 +23,7 @@ order_tree_part known x = tree_part shared_leaf (bad_shared known.leaves.orders 
 -- a question over so many extents
 abbrev pub question_part : ℕ → Question → Part
 question_part extents q = both_parts (name_part 120 extents q.first) (both_parts (word_part (codes " "))
-    (both_parts (name_part 120 extents q.second) (both_parts (word_part (codes " ")) (word_part (side_text q.side)))))
+    (both_parts (name_part 120 extents q.second) (both_parts (word_part (codes " ")) (word_part (side_name q.side)))))
 
 abbrev pub claim_part : Known → Claim → Part
 claim_part known (Before x) = both_parts (word_part (codes "lt ")) (order_tree_part known x)

@@ -2,8 +2,7 @@
 use Rattle.std.specs.Prelude.{ℕ, List, [], ◌∷◌, ◌++◌, codes}
 use Rattle.std.specs.Fmt.{decimal, signed_decimal}
 use Rattle.order_laws.specs.declared.Position.{Position}
-use Rattle.certificate_reader.specs.declared.order_lines.Side.{Side}
-use Rattle.certificate_reader.specs.declared.order_lines.Side.TheVariants.{StartEnd, StartStart, EndStart, EndEnd}
+use Rattle.order_core.specs.Sides.{side_name}
 use Rattle.certificate_reader.specs.declared.order_lines.Question.{Question}
 use Rattle.certificate_reader.specs.declared.order_lines.Claim.{Claim}
 use Rattle.certificate_reader.specs.declared.order_lines.Claim.TheVariants.{Before, AtOrBefore, Open}
@@ -20,14 +19,8 @@ abbrev pub positions_text : List Position → List ℕ
 positions_text [] = []
 positions_text (p ∷ ps) = codes " " ++ (position_text p ++ positions_text ps)
 
-abbrev pub side_text : Side → List ℕ
-side_text StartEnd = codes "se"
-side_text StartStart = codes "ss"
-side_text EndStart = codes "es"
-side_text EndEnd = codes "ee"
-
 abbrev pub question_text : Question → List ℕ
-question_text q = (codes "x" ++ decimal q.first) ++ (codes " " ++ ((codes "x" ++ decimal q.second) ++ (codes " " ++ side_text q.side)))
+question_text q = (codes "x" ++ decimal q.first) ++ (codes " " ++ ((codes "x" ++ decimal q.second) ++ (codes " " ++ side_name q.side)))
 
 abbrev pub claim_text : Claim → List ℕ
 claim_text (Before x) = codes "lt " ++ tree_bytes shared_leaf x

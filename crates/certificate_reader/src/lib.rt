@@ -15,4 +15,4 @@ pub use certificate_trees::{
 pub use class_lines::{ClassLine, ClassProof, MarkedLine, read_class_line};
 pub use heads::{Kind, read_head};
 pub use matrix_lines::{Counts, Cover, MatrixLine, WalkProof, read_matrix_line};
-pub use order_lines::{Claim, Known, OrderLine, OrderProof, Question, Side, read_order_line};
+pub use order_lines::{Claim, Known, OrderLine, OrderProof, Question, read_order_line};

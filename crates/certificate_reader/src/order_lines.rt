@@ -5,28 +5,19 @@ ghost use Rattle.certificate_trees.specs.Beginnings.{Then, Word, IsWhole, IsRefu
 ghost use Rattle.certificate_trees.specs.Parts.{IsPartRead, IsPartRefused, IsStanding, both_parts, word_part};
 ghost use Rattle.certificate_reader.specs.LineGrammar.{PositionForm, Positions, PositionsLine, SideForm, QuestionForm, AtOrBeforeForm, LackForm, ClaimForm, PlaceForm, PlaceLineForm, PairForm, OrderTree, OrderForm, OrderLineForm};
 ghost use Rattle.certificate_reader.specs.OrderParts.{question_part, claim_part, order_line_part, order_tree_part};
-ghost use Rattle.certificate_reader.specs.OrderTexts.{position_text, positions_text, side_text, order_line_text, order_line_nodes};
+ghost use Rattle.order_core.specs.Sides.{side_name};
+ghost use Rattle.certificate_reader.specs.OrderTexts.{position_text, positions_text, order_line_text, order_line_nodes};
 
 use crate::{CertRefusal, Found, Join, Notes, OrderLeaves, Weaken, read_word};
 use certificate_trees::{DEPTH, read_instant, read_name, read_number, read_tree, stands_at};
-use order_core::{Placing, Position};
+use order_core::{Placing, Position, Side};
 use proof_core::{Proof, SharedLeaf};
 use std::alloc::Global;
 
 /// A tree over orders and kept facts.
 pub type OrderProof = Proof<SharedLeaf<u32>, Weaken, Join>;
 
-/// Which boundaries of two extents a question compares: the start or the end of the first with that of the
-/// second.
-#[derive(Clone, Copy, PartialEq, Eq, Debug)]
-pub enum Side {
-    StartEnd,
-    StartStart,
-    EndStart,
-    EndEnd,
-}
-
-/// How two boundaries of two extents stand, the extents by number.
+/// Which boundaries of two extents are asked about, the extents by number.
 #[derive(Clone, Copy, PartialEq, Eq, Debug)]
 pub struct Question {
     pub first: u32,
@@ -103,7 +94,7 @@ fn read_positions(alloc: Global, text: &[u8], at: usize) -> Result<Found<Placing
 
 fn read_side(text: &[u8], at: usize) -> Result<Found<Side>, CertRefusal>
     requires { at ≤ length text.now }
-    ensures read { IfOk result (λ f. IsRead text.now at f.to (side_text f.value)) }
+    ensures read { IfOk result (λ f. IsRead text.now at f.to (side_name f.value)) }
     ensures whole { IfOk result (λ f. IsWhole SideForm text.now at f.to) }
     ensures refused { IfErr result (λ e. IsRefused SideForm None text.now at e) }
 {

@@ -2,4 +2,3 @@ pub mod Lengths
 pub mod Certificates
 pub mod Types
 pub mod Verdicts
-pub mod MatrixStages

@@ -1,11 +1,8 @@
 //! The certificates of records: written from what these say, and judged against them.
 #![tactic(auto)]
 
-mod classes;
-mod families;
 mod judging;
 mod kinds;
-mod matrix;
 mod telling;
 mod types;
 mod utf8;

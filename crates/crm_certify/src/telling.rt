@@ -8,10 +8,10 @@ ghost use Rattle.report_base.specs.declared.status.Status.TheVariants.{Done, Fin
 ghost use Rattle.report_base.specs.Reports.{Writes};
 ghost use Rattle.crm_certify.specs.Lengths.{WritesSome, within_length};
 
-use crate::matrix::{MatrixPieces, walks_of};
 use chain_certificate::Chain;
 use crm_outside::{Sink, print_text};
 use harris_matrix::Matrix;
+use matrix_certificates::{MatrixPieces, walks_of};
 use order_analysis::Analysis;
 use order_certificates::{
     Drafts, OrderPieces, Pieces, count_drafts, count_pieces, cycle_certificate, print_drafts,

@@ -5,11 +5,11 @@ ghost use Rattle.report_base.specs.Reports.{Writes};
 ghost use Rattle.crm_certify.specs.Certificates.{WritesCertificate, WritesMatrix, WritesMatrixOf, orders_certificate, orders_report};
 ghost use Rattle.crm_certify.specs.Lengths.{WritesSome};
 
-use crate::classes::{ClassPieces, Types};
 use crate::kinds::CertKind;
 use crate::telling::{tell_consistent, tell_cycle, tell_drafts, tell_inconsistent, tell_matrix};
 use crate::types::{due_numbers, type_rows};
 use boundary_orders::Dossier;
+use class_certificates::{ClassPieces, Types};
 use crm_outside::Sink;
 use dossier_analysis::analyse;
 use order_analysis::Analysis;

@@ -1,8 +1,8 @@
 // Relations of earlier releases, and Allen's.
 ghost use Rattle.report_base.specs.Reports.{Writes};
-ghost use Rattle.allen_reports.specs.Reports.{allen_report, legacy_report};
+ghost use Rattle.allen_reports.specs.Reports.{allen_pair_report, allen_report, legacy_report};
 
-use allen_reports::{report_allen, report_legacy};
+use allen_reports::{report_allen, report_allen_pair, report_legacy};
 use crm_core::{Archive, ReportFault, Status};
 use crm_outside::Sink;
 use std::alloc::Global;
@@ -34,4 +34,22 @@ pub fn write_allen<W: Sink>(
     ensures { Writes W.written W.faults W.sure out.old out.new (allen_report archive.now.records) result }
 {
     report_allen(alloc, archive.records(), out)
+}
+
+/// Prints the lines of the periods that `a` and `b` name, and then the cycle that no placing satisfies, or each of Allen's
+/// relations that some placing has from the one to the other, with such a placing. Legacy relations are replaced first, as
+/// in `write_legacy`.
+///
+/// The words are those of `write_explain`. `Usage` where one names no period, which is printed; `Findings` and `Refused`
+/// as with `write_allen`.
+pub fn write_allen_pair<W: Sink>(
+    alloc: Global,
+    archive: &Archive,
+    a: &str,
+    b: &str,
+    out: &mut W,
+) -> Result<Status, ReportFault>
+    ensures { Writes W.written W.faults W.sure out.old out.new (allen_pair_report archive.now.records a.now b.now) result }
+{
+    report_allen_pair(alloc, archive.records(), a, b, out)
 }

@@ -9,7 +9,7 @@ use Rattle.report_base.specs.declared.status.Status.TheVariants.{Done, Findings,
 use Rattle.report_base.specs.declared.status.ReportFault.{ReportFault}
 use Rattle.report_base.specs.declared.status.ReportFault.TheVariants as report
 use Rattle.report_base.specs.Reports.{Report, Writes}
-use Rattle.crm_run.specs.declared.tasks.Task.{Task}
+use Rattle.command_words.specs.declared.tasks.Task.{Task}
 use Rattle.crm_run.specs.Outcomes.{Outcome, Ends, IsComplete, Faulted, ended}
 use Rattle.crm_run.specs.Report.{asked_report}
 

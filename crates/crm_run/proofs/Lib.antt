@@ -1,9 +1,14 @@
+pub mod Contradictions
+pub mod Dated
 pub mod Endings
 pub mod Headlines
+pub mod Joins
+pub mod Listed
+pub mod Parts
+pub mod Related
 pub mod Runs
-pub mod Samples
-pub mod Shapes
-pub mod Soundness
+pub mod Stated
+pub mod Tangled
 pub mod Tellings
 pub mod Truths
 pub mod Usages

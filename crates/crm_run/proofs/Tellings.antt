@@ -14,9 +14,9 @@ use Rattle.crm_core.specs.Files.{Answers, AnswersBytes, is_ntriples}
 use Rattle.crm_core.specs.declared.faults.ArchiveFault.{ArchiveFault}
 use Rattle.crm_core.specs.declared.faults.ArchiveFault.TheVariants as archive
 use Rattle.record_reports.specs.RecordReports.{refusal_report}
-use Rattle.crm_run.specs.declared.tasks.Task.{Task}
+use Rattle.command_words.specs.declared.tasks.Task.{Task}
 use Rattle.crm_run.specs.Headline.{IsReport}
-use Rattle.crm_run.specs.Outcomes.{Outcome, Ends, Faulted, IsReached, IsRead, IsTold, base_of, files_of}
+use Rattle.crm_run.specs.Outcomes.{Outcome, Ends, Faulted, IsReached, IsRead, IsTold, IsToldBy, base_of, files_of}
 use Rattle.crm_run.specs.Report.{answer_at, answer_of, report_by, read_fault_report}
 use Rattle.crm_run.proofs.Endings.{any_ends, no_read_fault_end, no_usage_end, write_end}
 use Rattle.crm_run.proofs.Verdicts.{other, memory_is_none, read_fault_is_none, refused_is_none}
@@ -63,20 +63,26 @@ module _ {S : Type 0} (written : S → Option (List ℕ)) (faults sure : S → �
     told_honest (Some files) archive.Failed is missing h = missing_bytes (files name) (missing refl) h
     told_honest (Some files) archive.Memory is missing h = any_ends written faults sure a b status h.1 (report_by name said (answer_of files base name))
 
-  pub told_no_usage : (fault : ArchiveFault) → IsTold written faults sure a b name fault status → status ≡ Usage → ⊥
-  told_no_usage (archive.Refused f) h e = no_usage_end written faults sure a b (refusal_report f) status (λ d. let never : ⊥ = cc in never) h e
-  told_no_usage archive.Failed h e = no_usage_end written faults sure a b (read_fault_report name) status (λ d. let never : ⊥ = cc in never) h e
-  told_no_usage archive.Memory h e = let same : Memory ≡ Usage = sym h.0 ∙ e in let never : ⊥ = cc in never
+  -- whatever is printed of a refusal
+  module _ (refused : Refusal → Report) (own : (f : Refusal) → (refused f).status ≡ Refused) where
+    not_own : (f : Refusal) (s : Status) → (Refused ≡ s → ⊥) → (refused f).status ≡ s → ⊥
+    not_own f s other e = other (sym (own f) ∙ e)
 
-  pub told_read : (rose : Type 0) (fault : ArchiveFault) → (fault ≡ archive.Failed → rose) → IsTold written faults sure a b name fault status → status ≡ ReadFault → rose
-  told_read rose (archive.Refused f) failed h e = absurd (no_read_fault_end written faults sure a b (refusal_report f) status (λ d. let never : ⊥ = cc in never) h e)
-  told_read rose archive.Failed failed h e = failed refl
-  told_read rose archive.Memory failed h e = absurd (let same : Memory ≡ ReadFault = sym h.0 ∙ e in let never : ⊥ = cc in never)
+    pub told_no_usage : (fault : ArchiveFault) → IsToldBy written faults sure a b refused name fault status → status ≡ Usage → ⊥
+    told_no_usage (archive.Refused f) h e = no_usage_end written faults sure a b (refused f) status (not_own f Usage (λ d. let never : ⊥ = cc in never)) h e
+    told_no_usage archive.Failed h e = no_usage_end written faults sure a b (read_fault_report name) status (λ d. let never : ⊥ = cc in never) h e
+    told_no_usage archive.Memory h e = let same : Memory ≡ Usage = sym h.0 ∙ e in let never : ⊥ = cc in never
 
-  pub told_write : (fault : ArchiveFault) → IsTold written faults sure a b name fault status → status ≡ WriteFault → Rose (faults a) (faults b)
-  told_write (archive.Refused f) h e = write_end written faults sure a b (refusal_report f) status h e
-  told_write archive.Failed h e = write_end written faults sure a b (read_fault_report name) status h e
-  told_write archive.Memory h e = absurd (let same : Memory ≡ WriteFault = sym h.0 ∙ e in let never : ⊥ = cc in never)
+    pub told_read : (rose : Type 0) (fault : ArchiveFault) → (fault ≡ archive.Failed → rose) → IsToldBy written faults sure a b refused name fault status → status ≡ ReadFault → rose
+    told_read rose (archive.Refused f) failed h e =
+        absurd (no_read_fault_end written faults sure a b (refused f) status (not_own f ReadFault (λ d. let never : ⊥ = cc in never)) h e)
+    told_read rose archive.Failed failed h e = failed refl
+    told_read rose archive.Memory failed h e = absurd (let same : Memory ≡ ReadFault = sym h.0 ∙ e in let never : ⊥ = cc in never)
+
+    pub told_write : (fault : ArchiveFault) → IsToldBy written faults sure a b refused name fault status → status ≡ WriteFault → Rose (faults a) (faults b)
+    told_write (archive.Refused f) h e = write_end written faults sure a b (refused f) status h e
+    told_write archive.Failed h e = write_end written faults sure a b (read_fault_report name) status h e
+    told_write archive.Memory h e = absurd (let same : Memory ≡ WriteFault = sym h.0 ∙ e in let never : ⊥ = cc in never)
 
   -- and then there is no report
   pub told_is_none : (fault : ArchiveFault) → IsTold written faults sure a b name fault status → IsReport status → ⊥

@@ -1,5 +1,5 @@
 -- What a report says is true of every placing.
-use Rattle.std.proofs.Common.{◌≡◌, ℕ, ◌<◌, List, ◌++◌, length, get_or, Bool, true, false, None, sym, ap, subst, ◌∙◌, arith, inl, inr}
+use Rattle.std.proofs.Common.{◌≡◌, ℕ, ◌<◌, List, ◌++◌, get_or, Bool, true, false, None, refl, sym, ap, subst, ◌∙◌, arith, inl, inr}
 use Rattle.std.specs.Prelude.{◌↔◌, ◌≢◌, Option, if◌then◌else◌}
 use Rattle.std.specs.List.{Contains}
 use Rattle.std.proofs.lemmas.Bool.{true≢false, cases_Bool}
@@ -11,8 +11,6 @@ use Rattle.order_laws.specs.FirstChains.{IsChainOf}
 use Rattle.order_laws.specs.Placings.{IsSatisfied, IsConsistent, AlwaysStand, position_at}
 use Rattle.order_laws.specs.Positions.{Stand}
 use Rattle.order_laws.specs.Wider.{delaying_placing}
-use Rattle.order_laws.proofs.ChainSearch.{cases_option, cycle_is}
-use Rattle.order_laws.proofs.Hold.{cycle_refutes}
 use Rattle.order_core.specs.Sets.{Orders, AreExtents}
 use Rattle.order_core.specs.Primitives.{points_of}
 use Rattle.order_core.specs.declared.primitives.Primitive.{Primitive}
@@ -24,10 +22,11 @@ use Rattle.reason_report.specs.Listings.{IsListed}
 use Rattle.order_core.specs.Sides.{left_point, right_point}
 use Rattle.reason_report.specs.Relations.{relations_of}
 use Rattle.reason_report.specs.declared.relations.Relation.{Relation}
-use Rattle.crm_run.specs.Headline.{HasPlacing, AlwaysHolds, IsBroken, SaysInconsistent, IsTrueReason, IsTrueAnswer}
+use Rattle.crm_run.specs.Headline.{HasPlacing, AlwaysHolds, IsBroken, IsTrueReason, IsTrueAnswer}
+use Rattle.crm_run.proofs.Contradictions.{no_cycle, placed_none, says_consistent, says_inconsistent}
 
 -- a period is an extent
-extent_of : (extents : ℕ) (ps : List ℕ) (a : ℕ) → AreExtents extents ps → Contains ps a → a < extents
+pub extent_of : (extents : ℕ) (ps : List ℕ) (a : ℕ) → AreExtents extents ps → Contains ps a → a < extents
 extent_of extents ps a range h = subst (λ (n : ℕ). n < extents) h.2 (range h.0 a h.1)
 
 -- what is known of every report and of every answer
@@ -55,46 +54,13 @@ module _
     (position_at set.dates (delaying_placing set.list set.extents set.dates (points_of p a b).0) (points_of p a b).0)
     (position_at set.dates (delaying_placing set.list set.extents set.dates (points_of p a b).0) (points_of p a b).1) → ⊥)
     (set : Orders) (conditions : IsOrderSet set.list set.extents set.dates) where
-  no_cycle : HasPlacing set → HasCycle set.list → ⊥
-  no_cycle placed cycle = cycle_refutes set.list set.dates set.extents cycle placed
-
-  placed_none : HasPlacing set → cycle_of set ≡ None
-  placed_none placed = (consistent_law set conditions).1 placed
-
-  says_inconsistent : (front tail : List ℕ) → SaysInconsistent set front (front ++ text_by (cycle_of set) tail) ↔ (HasPlacing set → ⊥)
-  says_inconsistent front tail = (
-    λ s. λ placed. no_cycle placed (s.first.point, s.first.loop.loops),
-    λ none.
-        elim (cases_option (cycle_of set)) [
-          | inl e ↦ absurd (none ((consistent_law set conditions).0 e))
-          | inr found ↦ record {
-            cycle = found.0;
-            first = cycle_is set.list set.extents (length set.dates) found.0 found.1;
-            says = ap (λ (o : Option (List ℕ)). front ++ text_by o tail) found.1;
-          }
-        ],
-  )
-
   not_consistent : (periods cycle : List ℕ) → inconsistent_text cycle ≡ consistent_text set periods → ⊥
   unfolding inconsistent_text
   not_consistent periods cycle e = let n : 105 ≡ 99 = ap (λ (l : List ℕ). get_or l 0 0) e in omega (arith, n)
 
-  says_consistent : (periods front : List ℕ) → (front ++ report_text set periods ≡ front ++ consistent_text set periods) ↔ HasPlacing set
-  says_consistent periods front = (
-    λ e.
-        elim (cases_option (cycle_of set)) [
-          | inl none ↦ (consistent_law set conditions).0 none
-          | inr found ↦
-              absurd (not_consistent periods found.0
-              (sym (ap (λ (o : Option (List ℕ)). text_by o (consistent_text set periods)) found.1)
-              ∙ append_cancel_left front (report_text set periods) (consistent_text set periods) e))
-        ],
-    λ placed. ap (λ (o : Option (List ℕ)). front ++ text_by o (consistent_text set periods)) (placed_none placed),
-  )
-
   module _ (placed : HasPlacing set) (a : ℕ) (p : Primitive) (b : ℕ) (in_a : a < set.extents) (in_b : b < set.extents) where
     following_always : (is_following set.list a p b ≡ true) ↔ AlwaysHolds set a p b
-    following_always = holds_law set a p b conditions (no_cycle placed) in_a in_b
+    following_always = holds_law set a p b conditions (no_cycle set placed) in_a in_b
 
     not_following : (AlwaysHolds set a p b → ⊥) → is_following set.list a p b ≡ false
     not_following never =
@@ -102,19 +68,19 @@ module _
 
     breaks_it : (AlwaysHolds set a p b → ⊥) → IsBroken set a p b
     breaks_it never = record {
-      satisfied = satisfied_law set a p b conditions (no_cycle placed) in_a;
-      broken = broken_law set a p b conditions (no_cycle placed) in_a in_b (not_following never);
+      satisfied = satisfied_law set a p b conditions (no_cycle set placed) in_a;
+      broken = broken_law set a p b conditions (no_cycle set placed) in_a in_b (not_following never);
     }
 
   pub true_reason : (periods front : List ℕ) → AreExtents set.extents periods → IsTrueReason set periods front (front ++ report_text set periods)
   true_reason periods front range = record {
-    inconsistent = says_inconsistent front (consistent_text set periods);
-    consistent = says_consistent periods front;
-    listed = λ placed a p b in_a in_b apart. listed_law set periods a p b conditions (no_cycle placed) range in_a in_b apart;
+    inconsistent = says_inconsistent consistent_law set conditions front (λ o. text_by o (consistent_text set periods)) (λ cycle. refl);
+    consistent = says_consistent consistent_law set conditions front (λ o. text_by o (consistent_text set periods)) (not_consistent periods);
+    listed = λ placed a p b in_a in_b apart. listed_law set periods a p b conditions (no_cycle set placed) range in_a in_b apart;
     chains = λ x h. chain_law set periods x h;
     others = λ placed a p b in_a in_b apart missing.
         breaks_it placed a p b (extent_of set.extents periods a range in_a) (extent_of set.extents periods b range in_b)
-        (λ always. missing ((listed_law set periods a p b conditions (no_cycle placed) range in_a in_b apart).1 always));
+        (λ always. missing ((listed_law set periods a p b conditions (no_cycle set placed) range in_a in_b apart).1 always));
   }
 
   not_both : (p q : Primitive) (chain : List ℕ) (x : Point) → fails_text set q x ≡ holds_text set.list p chain → ⊥
@@ -130,7 +96,7 @@ module _
   module _ (placed : HasPlacing set) (a : ℕ) (p : Primitive) (b : ℕ) (front : List ℕ) (in_a : a < set.extents) (in_b : b < set.extents) where
     verdict : (f : Bool) → is_following set.list a p b ≡ f → front ++ answer_text set a p b ≡ front ++ (if f then Held a p b else Failed a p b)
     verdict f e =
-        ap (λ (o : Option (List ℕ)). front ++ text_by o (verdict_text set a p b)) (placed_none placed)
+        ap (λ (o : Option (List ℕ)). front ++ text_by o (verdict_text set a p b)) (placed_none consistent_law set conditions placed)
         ∙ ap (λ (g : Bool). front ++ (if g then Held a p b else Failed a p b)) e
 
     says_holds : (front ++ answer_text set a p b ≡ front ++ Held a p b) ↔ AlwaysHolds set a p b
@@ -159,7 +125,7 @@ module _
 
   pub true_answer : (a : ℕ) (p : Primitive) (b : ℕ) (front : List ℕ) → a < set.extents → b < set.extents → IsTrueAnswer set a p b front (front ++ answer_text set a p b)
   true_answer a p b front in_a in_b = record {
-    inconsistent = says_inconsistent front (verdict_text set a p b);
+    inconsistent = says_inconsistent consistent_law set conditions front (λ o. text_by o (verdict_text set a p b)) (λ cycle. refl);
     holds = λ placed. says_holds placed a p b front in_a in_b;
     fails = λ placed. says_fails placed a p b front in_a in_b;
     broken = λ placed never. breaks_it placed a p b in_a in_b never;

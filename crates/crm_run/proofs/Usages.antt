@@ -1,6 +1,6 @@
 -- When a run answers usage.
-use Rattle.std.proofs.Common.{◌≡◌, ℕ, Bool, true, false, List, [], ◌∷◌, length, Option, Some, None, Result, Ok, Err, IfOk, refl, sym, ap, ◌∙◌, inl, inr}
-use Rattle.std.specs.Prelude.{codes, is_none, nat_lt, if◌then◌else◌}
+use Rattle.std.proofs.Common.{◌≡◌, ℕ, ℤ, Bool, true, false, List, [], ◌∷◌, length, Option, Some, None, Result, Ok, Err, IfOk, refl, sym, ap, subst, ◌∙◌, inl, inr}
+use Rattle.std.specs.Prelude.{◌⊎◌, codes, is_none, nat_lt, if◌then◌else◌}
 use Rattle.rdf_terms.specs.declared.triples.Records.{Records}
 use Rattle.rdf_reading.specs.Answers.{Answer}
 use Rattle.rdf_reading.specs.Answers.Answer.{Refuse, Read}
@@ -22,8 +22,15 @@ use Rattle.record_reports.specs.RecordReports.{dossier_report}
 use Rattle.report_base.proofs.Limits.{few_of}
 use Rattle.rdf_terms.specs.declared.terms.Refusal.{Refusal}
 use Rattle.crm_legacy.specs.Modern.{modern_of}
-use Rattle.allen_reports.specs.Reports.{of_modern, lines_report, relations_report, table_report, status_by as allen_status}
+use Rattle.period_names.specs.declared.asking.Period.{Period}
+use Rattle.period_names.specs.Naming.{period_named}
+use Rattle.allen_reports.specs.Reports.{allen_pair_report, lines_report, named_report, of_modern, periods_report, question_report, relations_report, status_by as allen_status, table_report}
 use Rattle.dating_reports.specs.Bounds.{around_report, status_by as dating_status}
+use Rattle.dating_reports.specs.When.{at_report}
+use Rattle.calendar_reports.specs.Dates.{calendar_report, status_by as calendar_status}
+use Rattle.order_conflicts.specs.declared.conflicts.Conflicts.{Conflicts}
+use Rattle.order_conflicts.specs.Conflicts.{conflicts_in}
+use Rattle.conflict_reports.specs.Texts.{found_report, outcome_status}
 use Rattle.crm_matrix.specs.MatrixTexts.{matrix_found, status_of}
 use Rattle.crm_core.specs.SampleReports.{sample_report, answer_report}
 use Rattle.crm_matrix.specs.Samples.{sample_file, sample_found}
@@ -32,7 +39,16 @@ use Rattle.crm_certify.specs.Lengths.{IsCertificate}
 use Rattle.order_certificates.specs.Cycles.{cycle_text}
 use Rattle.order_certificates.specs.OrderCertificates.{consistent_text}
 use Rattle.crm_certify.specs.Verdicts.{IsJudgement, refusal_report, verdict_status}
-use Rattle.crm_run.specs.Outcomes.{ended}
+use Rattle.command_help.specs.Help.{help_report, version_report}
+use Rattle.command_words.specs.declared.commands.CommandName.{CommandName}
+use Rattle.command_words.specs.declared.commands.JoinKind.{JoinKind}
+use Rattle.command_words.specs.declared.commands.JoinKind.TheVariants as joined
+use Rattle.command_words.specs.Tasks.{query_of}
+use Rattle.command_words.specs.declared.tasks.Query.{Query}
+use Rattle.command_words.specs.declared.tasks.Listing.{Listing}
+use Rattle.command_words.specs.declared.tasks.Listing.TheVariants as listing
+use Rattle.crm_run.specs.Outcomes.{AreUnnamedIn, NamesNoPeriod, ended}
+use Rattle.crm_run.specs.Report.{listing_by}
 
 pub refused : Refused ≡ Usage → ⊥
 refused e = let never : ⊥ = cc in never
@@ -77,6 +93,23 @@ bounds_status false e = findings e
 pub bounds_no_usage : (r : Records) → (within_limits (findings_from r) (around_report r.names (findings_from r))).status ≡ Usage → ⊥
 bounds_no_usage r e = limited (findings_from r) (around_report r.names (findings_from r)) (bounds_status (is_none (cycle_of (findings_from r).orders))) e
 
+pub when_no_usage : (r : Records) (t : ℤ) → (within_limits (findings_from r) (at_report r.names (findings_from r) t)).status ≡ Usage → ⊥
+when_no_usage r t e = limited (findings_from r) (at_report r.names (findings_from r) t) (bounds_status (is_none (cycle_of (findings_from r).orders))) e
+
+calendar_by : (b : Bool) → calendar_status b ≡ Usage → ⊥
+calendar_by true e = done e
+calendar_by false e = findings e
+
+pub dates_no_usage : (r : Records) → (within_limits (findings_from r) (calendar_report r.names (findings_from r))).status ≡ Usage → ⊥
+dates_no_usage r e = limited (findings_from r) (calendar_report r.names (findings_from r)) (calendar_by (is_none (cycle_of (findings_from r).orders))) e
+
+conflicts_by : (o : Option Conflicts) → outcome_status o ≡ Usage → ⊥
+conflicts_by None e = done e
+conflicts_by (Some c) e = findings e
+
+pub conflicts_no_usage : (r : Records) → (within_limits (findings_from r) (found_report r.names (findings_from r))).status ≡ Usage → ⊥
+conflicts_no_usage r e = limited (findings_from r) (found_report r.names (findings_from r)) (conflicts_by (conflicts_in (findings_from r).orders)) e
+
 of_modern_no_usage : (p : Records → Report) → ((m : Records) → (p m).status ≡ Usage → ⊥) → (o : Result Records Refusal) → (of_modern p o).status ≡ Usage → ⊥
 of_modern_no_usage p h (Ok m) e = h m e
 of_modern_no_usage p h (Err f) e = refused e
@@ -92,12 +125,37 @@ pub allen_no_usage : (r : Records) → (of_modern table_report (modern_of r)).st
 allen_no_usage r e =
     of_modern_no_usage table_report (λ m d. limited (findings_from m) (relations_report m.names (findings_from m)) (relations_status (cycle_of (findings_from m).orders)) d) (modern_of r) e
 
+unnamed : (m : Records) (a b : List ℕ) (x y : Option Period) → (named_report m.names (findings_from m) a b x y).status ≡ Usage → (x ≡ None) ⊎ (y ≡ None)
+unnamed m a b None y e = inl refl
+unnamed m a b (Some x) None e = inr refl
+unnamed m a b (Some x) (Some y) e = absurd (relations_status (cycle_of (findings_from m).orders) e)
+
+pair_by : (a b : List ℕ) (o : Result Records Refusal) → (of_modern (question_report a b) o).status ≡ Usage → AreUnnamedIn a b o
+pair_by a b (Ok m) e =
+    let few = few_of (findings_from m) (periods_report m.names (findings_from m) a b) Usage refused e in
+    (few.0, unnamed m a b (period_named m.names (findings_from m).extents a) (period_named m.names (findings_from m).extents b) few.1)
+pair_by a b (Err f) e = absurd (refused e)
+
+-- `allen` of two words
+pub pair_usage : (r : Records) (a b : List ℕ) → (allen_pair_report r a b).status ≡ Usage → AreUnnamedIn a b (modern_of r)
+pair_usage r a b e = pair_by a b (modern_of r) e
+
 sampled : (n : ℕ) (a : Answer) → (answer_report n a).status ≡ Usage → ⊥
 sampled n (Refuse code at) e = refused e
 sampled n (Read r) e = limited (findings_from r) (sample_found n r) (matrix_status (is_none (cycle_of (findings_from r).orders))) e
 
 pub sample_no_usage : (n : ℕ) → (sample_report n).status ≡ Usage → ⊥
 sample_no_usage n e = sampled n (file_answer true None (sample_file n)) e
+
+pub help_no_usage : (command : Option CommandName) → (help_report command).status ≡ Usage → ⊥
+help_no_usage command e = done e
+
+pub version_no_usage : version_report.status ≡ Usage → ⊥
+version_no_usage e = done e
+
+pub listing_no_usage : (l : Listing) (bytes : List ℕ) (x : Answer) → (listing_by l bytes x).status ≡ Usage → ⊥
+listing_no_usage l bytes (Refuse code at) e = refused e
+listing_no_usage listing.Lines bytes (Read r) e = done e
 
 short : (b : Bool) (r : Report) → (r.status ≡ Usage → ⊥) → (if b then passed (codes "L9") (length r.text) else r).status ≡ Usage → ⊥
 short true r h e = refused e
@@ -173,6 +231,18 @@ no_usage X (Err f) s h p = tt
 pub is_ending : (w : Result Status ReportFault) (s : Status) → IfOk w (λ t. (t ≡ s) × IsEnding t) → IfOk w IsEnding
 is_ending (Ok t) s p = p.1
 is_ending (Err f) s p = tt
+
+-- no report on several files names periods
+never_named : (k : JoinKind) (r : Records) → NamesNoPeriod (query_of k) r → ⊥
+never_named joined.Check r h = h
+never_named joined.Orders r h = h
+never_named joined.Reason r h = h
+never_named joined.Convert r h = h
+
+pub asks_nothing : (k : JoinKind) (q : Query) (r : Records) (w : Result Status ReportFault) → q ≡ query_of k → IfOk w (λ t. t ≡ Usage → NamesNoPeriod q r) →
+    IfOk w (λ t. t ≡ Usage → ⊥)
+asks_nothing k q r (Ok t) same h = λ e. never_named k r (subst (λ (x : Query). NamesNoPeriod x r) same (h e))
+asks_nothing k q r (Err f) same h = tt
 
 -- and what is known of an end, by what was written
 pub usage_ended : (X : Type 0) (w : Result Status ReportFault) → IfOk w (λ t. t ≡ Usage → X) → ended w ≡ Usage → X

@@ -1,6 +1,5 @@
 pub mod Headline
+pub mod Joins
 pub mod Outcomes
 pub mod Report
 pub mod Runs
-pub mod Tasks
-pub mod Words

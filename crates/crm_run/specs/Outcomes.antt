@@ -7,7 +7,10 @@ use Rattle.report_base.specs.declared.status.Status.{Status}
 use Rattle.report_base.specs.declared.status.Status.TheVariants.{Done, Findings, Refused, Usage, ReadFault, WriteFault, Memory}
 use Rattle.report_base.specs.declared.status.ReportFault.{ReportFault}
 use Rattle.report_base.specs.declared.status.ReportFault.TheVariants as report
+use Rattle.rdf_terms.specs.declared.terms.Refusal.{Refusal}
 use Rattle.rdf_terms.specs.declared.triples.Records.{Records}
+use Rattle.crm_legacy.specs.Modern.{modern_of}
+use Rattle.period_names.specs.Naming as naming
 use Rattle.rdf_reading.specs.Answers.{Answer}
 use Rattle.rdf_reading.specs.Answers.Answer.{Read}
 use Rattle.boundary_orders.specs.Dossiers.{AreFew}
@@ -18,10 +21,10 @@ use Rattle.crm_core.specs.declared.faults.ArchiveFault.{ArchiveFault}
 use Rattle.crm_core.specs.declared.faults.ArchiveFault.TheVariants as archive
 use Rattle.record_reports.specs.RecordReports.{refusal_report}
 use Rattle.report_base.specs.Reports.{Report, findings_from}
-use Rattle.crm_run.specs.declared.tasks.Query.{Query}
-use Rattle.crm_run.specs.declared.tasks.Query.TheVariants as query
-use Rattle.crm_run.specs.declared.tasks.Task.{Task}
-use Rattle.crm_run.specs.declared.tasks.Task.TheVariants as task
+use Rattle.command_words.specs.declared.tasks.Query.{Query}
+use Rattle.command_words.specs.declared.tasks.Query.TheVariants as query
+use Rattle.command_words.specs.declared.tasks.Task.{Task}
+use Rattle.command_words.specs.declared.tasks.Task.TheVariants as task
 use Rattle.crm_run.specs.Report.{answer_of, read_fault_report}
 
 -- the status of a report that was written, or broke off
@@ -30,11 +33,23 @@ ended (Ok status) = status
 ended (Err report.Failed) = WriteFault
 ended (Err report.Memory) = Memory
 
--- in `explain`: over these records, which are within the limits, A or B names no period
-abbrev pub NamesNoPeriod : Query → Records → Type 0
-NamesNoPeriod (query.Explain a code b) r =
+-- over these records, which are within the limits, A or B names no period
+abbrev pub AreUnnamed : List ℕ → List ℕ → Records → Type 0
+AreUnnamed a b r =
     AreFew (findings_from r)
     × ((period_named r.names (findings_from r).extents a ≡ None) ⊎ (period_named r.names (findings_from r).extents b ≡ None))
+
+-- so it is with records in today's properties, where they are no refusal
+abbrev pub AreUnnamedIn : List ℕ → List ℕ → Result Records Refusal → Type 0
+AreUnnamedIn a b (Ok m) =
+    AreFew (findings_from m)
+    × ((naming.period_named m.names (findings_from m).extents a ≡ None) ⊎ (naming.period_named m.names (findings_from m).extents b ≡ None))
+AreUnnamedIn a b (Err f) = ⊥
+
+-- in `explain` and in `allen`
+abbrev pub NamesNoPeriod : Query → Records → Type 0
+NamesNoPeriod (query.Explain a code b) r = AreUnnamed a b r
+NamesNoPeriod (query.AllenPair a b) r = AreUnnamedIn a b (modern_of r)
 NamesNoPeriod other r = ⊥
 
 -- the file is read to such records
@@ -53,12 +68,20 @@ IsUsage files (Some other) = ⊥
 abbrev pub files_of : Task → List (List ℕ)
 files_of (task.Report base file q) = file ∷ []
 files_of (task.Verify base file cert) = file ∷ cert ∷ []
+files_of (task.Join base report files) = files
+files_of (task.List base file l) = file ∷ []
 files_of (task.Sample n) = []
+files_of (task.Help command) = []
+files_of task.Version = []
 
 abbrev pub base_of : Task → Option (List ℕ)
 base_of (task.Report base file q) = base
 base_of (task.Verify base file cert) = base
+base_of (task.Join base report files) = base
+base_of (task.List base file l) = base
 base_of (task.Sample n) = None
+base_of (task.Help command) = None
+base_of task.Version = None
 
 abbrev pub IsRead : Option Answer → Type 0
 IsRead (Some (Read r)) = ⊤
@@ -101,8 +124,11 @@ module _ {S : Type 0} (written : S → Option (List ℕ)) (faults sure : S → �
   Faulted rose files None status = ⊥
   Faulted rose files (Some t) status = rose × IsFaulted files t status
 
-  -- why a file was not read; where memory was wanting nothing is printed, which is a front of every text
+  -- why a file was not read, by what is printed of its refusal; where memory was wanting nothing is printed, which is a front of every text
+  abbrev pub IsToldBy : (Refusal → Report) → List ℕ → ArchiveFault → Status → Type 0
+  IsToldBy refused name (archive.Refused f) status = Outcome (refused f) status
+  IsToldBy refused name archive.Failed status = Outcome (read_fault_report name) status
+  IsToldBy refused name archive.Memory status = (status ≡ Memory) × ((r : Report) → Outcome r status)
+
   abbrev pub IsTold : List ℕ → ArchiveFault → Status → Type 0
-  IsTold name (archive.Refused f) status = Outcome (refusal_report f) status
-  IsTold name archive.Failed status = Outcome (read_fault_report name) status
-  IsTold name archive.Memory status = (status ≡ Memory) × ((r : Report) → Outcome r status)
+  IsTold = IsToldBy refusal_report

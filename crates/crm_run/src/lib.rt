@@ -1,15 +1,13 @@
 //! The words of the command line, and what they do: files are read from a shelf, and a report is printed to a sink.
 #![tactic(auto)]
 
-mod commands;
+mod joining;
 mod laws;
+mod listing;
 mod reporting;
 mod running;
-mod tasks;
 mod telling;
 mod verifying;
-mod words;
 
-pub use commands::Command;
+pub use command_words::{Command, JoinKind, TextList, read_words};
 pub use running::run;
-pub use words::read_words;

@@ -3,28 +3,31 @@ ghost use Rattle.std.specs.Prelude.{◌≡◌, IfSome, IfOk, IsErrOf, Some};
 ghost use Rattle.crm_outside.specs.Causes.{Rose};
 ghost use Rattle.report_base.specs.Reports.{Writes, IsEnding};
 ghost use Rattle.crm_run.specs.Outcomes.{NamesNoPeriod};
-ghost use Rattle.crm_run.specs.Tasks.{AreApart, IsSound};
+ghost use Rattle.command_words.specs.Tasks.{IsSound, IsSoundQuery};
 ghost use Rattle.crm_run.specs.Report.{records_report};
 ghost use Rattle.crm_run.specs.Runs.{Runs};
 
-use crate::tasks::{Query, Task};
 use crate::telling::{ended, print_archive_fault, text_in};
+use command_words::{Query, Task};
 use crm_core::{
     Archive, ReportFault, Status, write_certificate, write_check, write_convert, write_explain,
     write_matrix, write_orders, write_reason,
 };
-use crm_extra::{write_allen, write_bounds, write_legacy};
+use crm_extra::{
+    write_allen, write_allen_pair, write_bounds, write_conflicts, write_dates, write_legacy,
+    write_when,
+};
 use crm_outside::{Shelf, Sink, Text};
 use std::alloc::Global;
 
-// Writes what is said of the records of a file.
-fn write_report<W: Sink>(
+/// Writes what is said of the records of a file.
+pub(crate) fn write_report<W: Sink>(
     alloc: Global,
     query: &Query,
     archive: &Archive,
     out: &mut W,
 ) -> Result<Status, ReportFault>
-    requires { AreApart query.now }
+    requires { IsSoundQuery query.now }
     ensures report { IfSome (records_report query.now archive.now.records) (λ r. Writes W.written W.faults W.sure out.old out.new r result) }
     ensures ending { IfOk result IsEnding }
     ensures usage { IfOk result (λ s. s ≡ Status.Usage → NamesNoPeriod query.now archive.now.records) }
@@ -41,8 +44,12 @@ fn write_report<W: Sink>(
         Query::Matrix => write_matrix(alloc, archive, out),
         Query::Convert => write_convert(alloc, archive, out),
         Query::Bounds => write_bounds(alloc, archive, out),
+        Query::Dates => write_dates(alloc, archive, out),
+        Query::When { t } => write_when(alloc, archive, *t, out),
+        Query::Conflicts => write_conflicts(alloc, archive, out),
         Query::Legacy => write_legacy(alloc, archive, out),
         Query::Allen => write_allen(alloc, archive, out),
+        Query::AllenPair { a, b } => write_allen_pair(alloc, archive, a.as_str(), b.as_str(), out),
     }
 }
 

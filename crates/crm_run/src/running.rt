@@ -3,17 +3,22 @@ ghost use Rattle.std.specs.Prelude.{◌≡◌, ◌⊎◌, ◌≤◌, length, IfS
 ghost use Rattle.crm_outside.specs.Causes.{Rose};
 ghost use Rattle.crm_run.specs.Outcomes.{Outcome, Ends, IsComplete, Faulted, IsUsage};
 ghost use Rattle.crm_run.specs.Headline.{JudgesTruly, SaysTruly};
-ghost use Rattle.crm_run.specs.Words.{command_of};
-ghost use Rattle.crm_run.specs.Tasks.{task_named, IsSound};
+ghost use Rattle.command_words.specs.Words.{command_of};
+ghost use Rattle.command_words.specs.Tasks.{task_named, IsSound};
 ghost use Rattle.crm_run.specs.Report.{usage_report, report};
 ghost use Rattle.crm_run.specs.Runs.{Runs};
 
-use crate::laws::{answers_are_true, reports_are_true};
+use crate::joining::run_join;
+use crate::laws::{
+    answers_are_true, bounds_are_true, conflicts_are_true, lists_are_true, moments_are_true,
+    reports_are_true, tables_are_true,
+};
+use crate::listing::run_listing;
 use crate::reporting::run_report;
-use crate::tasks::{Task, task_of};
 use crate::telling::{ended, print_report};
 use crate::verifying::run_verify;
-use crate::words::read_words;
+use command_help::{write_help, write_version};
+use command_words::{Task, read_words, task_of};
 use crm_core::{Status, orders_of_records_are_a_set, write_sample};
 use crm_outside::{Shelf, Sink};
 use std::alloc::{AllocError, Global};
@@ -33,7 +38,19 @@ fn run_task<S: Shelf, W: Sink>(alloc: Global, task: &Task, shelf: &mut S, out: &
         Task::Verify { base, file, cert } => {
             run_verify(alloc, base, file.as_str(), cert.as_str(), shelf, out)
         }
+        Task::Join {
+            base,
+            report,
+            files,
+        } => run_join(alloc, base, *report, files.as_slice(), shelf, out),
+        Task::List {
+            base,
+            file,
+            listing,
+        } => run_listing(alloc, base, file.as_str(), *listing, shelf, out),
         Task::Sample { n } => ended(write_sample(alloc, *n, out)),
+        Task::Help { command } => ended(write_help(*command, out)),
+        Task::Version => ended(write_version(out)),
     }
 }
 
@@ -76,12 +93,12 @@ pub fn run<S: Shelf, W: Sink>(alloc: Global, words: &[String], shelf: &mut S, ou
         ⊎ Faulted W.written W.faults W.sure out.old out.new (Rose (S.faults shelf.old) (S.faults shelf.new)) files (task_named (map string_bytes words.now)) result) }
     ensures honest { S.honest shelf.old ≡ true → IfSome (S.files shelf.old) (λ files.
         Ends W.written W.faults W.sure out.old out.new (report (map string_bytes words.now) files) result) }
-    // of a file that is read the report says what is true of every placing of its starts and ends
+    // of a file that is read, or of several that are read as one, the report says what is true of every placing of its starts and ends
     ensures headline { IfSome (S.files shelf.old) (λ files. SaysTruly W.written out.old out.new files (task_named (map string_bytes words.now)) result) }
     // where `verify` accepts the certificate of a file that is read, its verdict is true of the file's records
     ensures verdict { IfSome (S.files shelf.old) (λ files. JudgesTruly W.written out.old out.new files (task_named (map string_bytes words.now)) result) }
     ensures no_form { command_of (map string_bytes words.now) ≡ None → Outcome W.written W.faults W.sure out.old out.new usage_report result }
-    // the words have no form, or in `explain` over a file that is read within the limits A or B names no period
+    // the words have no form, or in `explain` or `allen` over a file that is read within the limits A or B names no period
     ensures usage { result ≡ Status.Usage → IsUsage (S.files shelf.old) (task_named (map string_bytes words.now)) }
     ensures read { result ≡ Status.ReadFault → Rose (S.faults shelf.old) (S.faults shelf.new) }
     ensures write { result ≡ Status.WriteFault → Rose (W.faults out.old) (W.faults out.new) }
@@ -95,6 +112,11 @@ pub fn run<S: Shelf, W: Sink>(alloc: Global, words: &[String], shelf: &mut S, ou
 {
     reports_are_true();
     answers_are_true();
+    tables_are_true();
+    lists_are_true();
+    bounds_are_true();
+    moments_are_true();
+    conflicts_are_true();
     orders_of_records_are_a_set();
     run_words(alloc, words, shelf, out)
 }

@@ -2,9 +2,12 @@
 ghost use Rattle.std.specs.Prelude.{◌≡◌, IfOk, string_bytes};
 ghost use Rattle.std.specs.Option.{option_map};
 ghost use Rattle.crm_run.specs.Outcomes as spec;
-ghost use Rattle.crm_run.specs.Outcomes.{Outcome, IsTold};
+ghost use Rattle.crm_run.specs.Outcomes.{Outcome, IsTold, IsToldBy};
+ghost use Rattle.archive_join.specs.Refusals.{file_refusal_report};
 ghost use Rattle.crm_run.specs.Report.{read_fault_report, read_fault_text};
 
+use crate::joining::PartFault;
+use archive_join::report_file_refusal;
 use crm_core::{ArchiveFault, ReportFault, Status, write_refusal};
 use crm_outside::{Sink, Text, write_all};
 use std::alloc::{AllocError, Global};
@@ -59,6 +62,24 @@ pub(crate) fn print_archive_fault<W: Sink>(
 {
     match fault {
         ArchiveFault::Refused(refusal) => ended(write_refusal(alloc, refusal, out)),
+        ArchiveFault::Failed => print_read_fault(alloc, file, out),
+        ArchiveFault::Memory => Status::Memory,
+    }
+}
+
+/// Says why one of several files was not read.
+pub(crate) fn print_part_fault<W: Sink>(
+    alloc: Global,
+    part: PartFault,
+    file: &str,
+    out: &mut W,
+) -> Status
+    ensures { IsToldBy W.written W.faults W.sure out.old out.new (file_refusal_report part.number) file.now part.fault result }
+{
+    match part.fault {
+        ArchiveFault::Refused(refusal) => {
+            ended(report_file_refusal(alloc, part.number as u64, refusal, out))
+        }
         ArchiveFault::Failed => print_read_fault(alloc, file, out),
         ArchiveFault::Memory => Status::Memory,
     }

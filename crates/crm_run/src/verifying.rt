@@ -2,11 +2,11 @@
 ghost use Rattle.std.specs.Prelude.{◌≡◌, ◌≤◌, IfSome, Some};
 ghost use Rattle.crm_outside.specs.Causes.{Rose};
 ghost use Rattle.crm_run.specs.Headline.{IsReport, IsSaid, IsTrueVerdict};
-ghost use Rattle.crm_run.specs.Tasks.{IsBase};
+ghost use Rattle.command_words.specs.Tasks.{IsBase};
 ghost use Rattle.crm_run.specs.Runs.{Runs};
 
-use crate::tasks::Task;
 use crate::telling::{ended, print_archive_fault, print_read_fault, print_report, text_in};
+use command_words::Task;
 use crm_core::{Archive, Status, write_verdict};
 use crm_outside::{Shelf, Sink, TakeFault, Text, read_all};
 use std::alloc::Global;

@@ -1,10 +1,9 @@
 -- What is read from a closure is what follows from the orders.
-use Rattle.std.proofs.Common.{zero, suc, ◌≡◌, ℕ, List, [], ◌∷◌, ◌++◌, Bool, true, false, ◌<◌, ◌≤◌, length, arith, inl, inr, refl, subst, ap, sym, ◌∙◌}
-use Rattle.std.specs.Prelude.{cond, nat_lt, Option, Some, None, ◌&&◌, ◌||◌, if◌then◌else◌}
+use Rattle.std.proofs.Common.{zero, suc, ◌≡◌, ℕ, ◌<◌, ◌≤◌, length, arith, inl, inr, refl, ap, ◌∙◌}
+use Rattle.std.specs.Prelude.{cond, Option, Some}
 use Rattle.std.proofs.lemmas.Bool.{cases_lt, lt-ltb, le-ltb}
-use Rattle.order_laws.specs.declared.Order.{Order}
 use Rattle.order_laws.specs.declared.Point.{Point}
-use Rattle.order_laws.specs.declared.Point.TheVariants.{Start, End, Date}
+use Rattle.order_laws.specs.declared.Point.TheVariants.{Date}
 use Rattle.order_laws.specs.declared.Reach.{Reach}
 use Rattle.order_laws.specs.Chains.{HasCycle}
 use Rattle.order_laws.specs.Closure.{reach_between}
@@ -16,10 +15,7 @@ use Rattle.order_core.specs.Sets.{Orders}
 use Rattle.order_closure.specs.Closures.{Closed, IsClosureOf, between}
 use Rattle.dating_bounds.specs.declared.extremes.Bound.{Bound}
 use Rattle.dating_bounds.specs.declared.extremes.DateBound.{DateBound}
-use Rattle.dating_bounds.specs.declared.moments.During.{During}
-use Rattle.dating_bounds.specs.declared.moments.During.TheVariants.{Surely, Never, Maybe}
 use Rattle.dating_bounds.specs.Around.{ceiling_of, low_at, high_at, bound_of}
-use Rattle.dating_bounds.specs.Moment.{is_surely, is_never, order_to, outside_order, maybe_of, during_of}
 
 module _ (dates : ℕ) (table other : Point → Point → Reach) (p : Point)
     (before : (k : ℕ) → k < dates → table (Date k) p ≡ other (Date k) p) (after : (k : ℕ) → k < dates → table p (Date k) ≡ other p (Date k)) where
@@ -70,36 +66,3 @@ module _ (set : Orders) (closure : Closed) (closed : IsClosureOf set closure) wh
       (λ k h. entry_is (Date k) p h in_p) (λ k h. entry_is p (Date k) in_p h) in
       ap {B = Bound} (λ l. record { low = l; high = high }) (is_low ∙ same.0)
       ∙ ap {B = Bound} (λ h. record { low = low_at (reach_between set.list) p (floor_of (reach_between set.list) (length set.dates) p); high = h }) (is_high ∙ same.1)
-
-  module _ (date k : ℕ) (in_dates : date < length set.dates) (in_extents : k < set.extents) where
-    pub surely_same : is_surely (between closure) date k ≡ is_surely (reach_between set.list) date k
-    surely_same =
-        ap (λ (r : Reach). is_known r && is_strict (between closure (Date date) (End k))) (entry_is (Start k) (Date date) in_extents in_dates)
-        ∙ ap (λ (r : Reach). is_known (reach_between set.list (Start k) (Date date)) && is_strict r) (entry_is (Date date) (End k) in_dates in_extents)
-
-    pub never_same : is_never (between closure) date k ≡ is_never (reach_between set.list) date k
-    never_same =
-        ap (λ (r : Reach). is_strict r || is_known (between closure (End k) (Date date))) (entry_is (Date date) (Start k) in_dates in_extents)
-        ∙ ap (λ (r : Reach). is_strict (reach_between set.list (Date date) (Start k)) || is_known r) (entry_is (End k) (Date date) in_extents in_dates)
-
-    pub outside_same : outside_order (between closure) date k ≡ outside_order (reach_between set.list) date k
-    outside_same =
-        ap {B = Order} (λ (r : Reach). if is_known r then order_to k (End k) (Date date) false else order_to k (Date date) (Start k) true)
-        (entry_is (Start k) (Date date) in_extents in_dates)
-
-    pub surely_computed : is_surely (between closure) date k ≡ true → Surely ≡ during_of set date k
-    surely_computed h =
-        let sure : is_surely (reach_between set.list) date k ≡ true = sym surely_same ∙ h in
-        rw sure refl
-
-    pub never_computed : is_surely (between closure) date k ≡ false → is_never (between closure) date k ≡ true → Never ≡ during_of set date k
-    never_computed h n =
-        let unsure : is_surely (reach_between set.list) date k ≡ false = sym surely_same ∙ h in
-        let never : is_never (reach_between set.list) date k ≡ true = sym never_same ∙ n in
-        rw unsure (rw never refl)
-
-    pub maybe_computed : is_surely (between closure) date k ≡ false → is_never (between closure) date k ≡ false → maybe_of set date k ≡ during_of set date k
-    maybe_computed h n =
-        let unsure : is_surely (reach_between set.list) date k ≡ false = sym surely_same ∙ h in
-        let possible : is_never (reach_between set.list) date k ≡ false = sym never_same ∙ n in
-        rw unsure (rw possible refl)

@@ -1,25 +1,22 @@
 -- The computed bounds of a boundary hold in every placing, and no better ones do.
-use Rattle.std.proofs.Common.{zero, suc, ◌≡◌, ℕ, ℤ, pos, List, Bool, true, false, ◌+◌, ◌<◌, ◌≤◌, length, get_or, arith, inl, inr, refl, subst, ap, sym, ◌∙◌}
-use Rattle.std.specs.Prelude.{nat_lt, Option, Some, None, cond}
-use Rattle.std.proofs.lemmas.Bool.{cases_Bool, cases_lt, true≢false, lt-ltb, le-ltb}
+use Rattle.std.proofs.Common.{zero, suc, ◌≡◌, ℕ, Bool, true, false, ◌<◌, ◌≤◌, length, arith, inl, inr, refl, subst, ap, sym, ◌∙◌}
+use Rattle.std.specs.Prelude.{Option, Some, None}
+use Rattle.std.proofs.lemmas.Bool.{cases_lt, true≢false, lt-ltb, le-ltb}
 use Rattle.std.proofs.lemmas.Option.{none-some}
 use Rattle.order_laws.specs.declared.Point.{Point}
 use Rattle.order_laws.specs.declared.Point.TheVariants.{Start, End, Date}
-use Rattle.order_laws.specs.declared.Position.{Position}
-use Rattle.order_laws.specs.declared.Reach.{Reach}
-use Rattle.order_laws.specs.Chains.{Follows, HasCycle}
+use Rattle.order_laws.specs.Chains.{HasCycle}
 use Rattle.order_laws.specs.Closure.{reach_between}
-use Rattle.order_laws.specs.Placings.{AlwaysStand, position_at}
+use Rattle.order_laws.specs.Placings.{position_at}
 use Rattle.order_laws.specs.Positions.{IsBefore}
-use Rattle.order_laws.specs.Tables.{is_known, is_strict, IsPoint, floor_of, built, IsOrderSet, IsOrderly}
+use Rattle.order_laws.specs.Tables.{is_known, is_strict, IsPoint, floor_of, IsOrderSet, IsOrderly}
 use Rattle.order_laws.specs.Wider.{plain_placing, delaying_placing}
 use Rattle.order_laws.proofs.Built.{floor_below, floor_known, floor_greatest}
 use Rattle.order_laws.proofs.Closure.{has, entry_follows, follows_entry}
 use Rattle.order_laws.proofs.Placed.{computed_orderly, always_follows, follows_always, delayed_before, delayed_on}
 use Rattle.order_core.specs.Sets.{Orders}
-use Rattle.dating_bounds.specs.declared.extremes.Bound.{Bound}
 use Rattle.dating_bounds.specs.declared.extremes.DateBound.{DateBound}
-use Rattle.dating_bounds.specs.Around.{IsBoundary, Always, IsLow, IsHigh, IsBoundOf, ceiling_of, low_at, high_at, bound_in, bound_of}
+use Rattle.dating_bounds.specs.Around.{IsBoundary, Always, IsLow, IsHigh, IsBoundOf, ceiling_of, low_at, high_at, bound_of}
 use Rattle.dating_bounds.proofs.Halves.{is_false, ceiling_below, ceiling_known, ceiling_unknown, later_known}
 use Rattle.dating_bounds.proofs.Standing.{on_date, before_date, upon_date}
 

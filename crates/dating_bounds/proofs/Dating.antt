@@ -1,22 +1,21 @@
 -- A set with an instant among its dates is a set, which the same placings satisfy.
-use Rattle.std.proofs.Common.{zero, suc, ◌≡◌, ℕ, ℤ, pos, List, [], ◌∷◌, ◌++◌, Bool, true, false, ◌+◌, ◌-◌, ◌*◌, ◌<◌, ◌≤◌, length, get_or, take, drop, map, arith, inl, inr, refl, subst, ap, sym, ◌∙◌, length-append}
+use Rattle.std.proofs.Common.{zero, suc, ◌≡◌, ℕ, ℤ, pos, List, [], ◌∷◌, ◌++◌, true, false, ◌+◌, ◌-◌, ◌<◌, ◌≤◌, length, get_or, take, drop, map, arith, inl, inr, refl, subst, ap, sym, ◌∙◌, length-append}
 use Rattle.std.specs.Prelude.{◌<ℤ◌, ◌↔◌, nat_lt, cond}
-use Rattle.std.proofs.lemmas.Int.{ints}
-use Rattle.std.proofs.lemmas.Bool.{cases_Bool, cases_eq, cases_lt, true≢false, lt-ltb, le-ltb}
+use Rattle.std.proofs.lemmas.Bool.{cases_Bool, cases_eq, cases_lt, lt-ltb, le-ltb}
 use Rattle.std.proofs.lemmas.List.{get_or_append_left, get_or-append-add, get_or-map, length-map}
 use Rattle.order_laws.specs.declared.Order.{Order}
 use Rattle.order_laws.specs.declared.Point.{Point}
 use Rattle.order_laws.specs.declared.Point.TheVariants.{Start, End, Date}
 use Rattle.order_laws.specs.declared.Position.{Position}
 use Rattle.order_laws.specs.Chains.{order_at, no_order, HasCycle}
-use Rattle.order_laws.specs.Placings.{IsSatisfied, IsConsistent, position_at}
+use Rattle.order_laws.specs.Placings.{IsSatisfied, position_at}
 use Rattle.order_laws.specs.Positions.{Stand}
 use Rattle.order_laws.specs.Tables.{IsPoint, IsOrderSet}
 use Rattle.order_laws.proofs.Hold.{cycle_refutes}
 use Rattle.order_laws.proofs.Placed.{consistent}
-use Rattle.order_core.specs.Sets.{Orders, AreInRange}
-use Rattle.order_extension.proofs.Further.{each_joined, Stands, satisfied_both}
-use Rattle.dating_bounds.specs.Dated.{place_of, is_dated, moved, renamed, date_order, neighbour_orders, inserted, dated}
+use Rattle.order_core.specs.Sets.{Orders}
+use Rattle.order_extension.proofs.Further.{each_joined, Stands}
+use Rattle.dating_bounds.specs.Dated.{place_of, is_dated, moved, renamed, date_order, neighbour_orders, dated}
 use Rattle.dating_bounds.proofs.Moving.{length-inserted, inserted_left, inserted_here, inserted_right, position_moved, moved_in_range, place_within, earlier_dates, later_date, same_date}
 
 most_two : (at count : ℕ) → length (neighbour_orders at count) ≤ 2

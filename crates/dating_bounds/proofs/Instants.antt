@@ -1,8 +1,7 @@
 -- What is said of a set with an instant among its dates is true of the set.
-use Rattle.std.proofs.Common.{◌≡◌, ℕ, ℤ, pos, List, ◌*◌, ◌<◌, length, get_or, arith, subst, sym, ◌∙◌, ap}
+use Rattle.std.proofs.Common.{◌≡◌, ℕ, ℤ, pos, List, ◌*◌, ◌<◌, get_or, arith, subst, sym, ◌∙◌, ap}
 use Rattle.order_laws.specs.declared.Position.{Position}
 use Rattle.order_laws.specs.Chains.{HasCycle}
-use Rattle.order_laws.specs.Placings.{IsSatisfied}
 use Rattle.order_laws.specs.Tables.{IsOrderSet}
 use Rattle.order_core.specs.Sets.{Orders}
 use Rattle.dating_bounds.specs.declared.moments.During.{During}

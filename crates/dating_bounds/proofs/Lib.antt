@@ -7,3 +7,8 @@ pub mod UnderWay
 pub mod Instants
 pub mod Agreeing
 pub mod Renaming
+pub mod Pushing
+pub mod Adding
+pub mod Words
+pub mod Insides
+pub mod RowsSay

@@ -1,11 +1,11 @@
 -- Where a built placing puts a boundary among the dates.
-use Rattle.std.proofs.Common.{zero, suc, ◌≡◌, ℕ, ℤ, pos, List, [], ◌∷◌, Bool, true, false, ◌+◌, ◌*◌, ◌<◌, ◌≤◌, length, get_or, arith, inl, inr, refl, subst, ap, sym, ◌∙◌, add-one}
+use Rattle.std.proofs.Common.{zero, suc, ◌≡◌, ℕ, ℤ, pos, List, [], ◌∷◌, Bool, true, false, ◌+◌, ◌<◌, ◌≤◌, length, get_or, arith, inl, inr, refl, subst, ap, sym, ◌∙◌, add-one}
 use Rattle.std.specs.Prelude.{◌<ℤ◌, ◌&&◌, ◌||◌}
 use Rattle.std.proofs.lemmas.Int.{ints}
 use Rattle.std.proofs.lemmas.Bool.{cases_Bool, cases_eq, cases_lt, true≢false, eqb-true}
 use Rattle.order_laws.specs.declared.Order.{Order}
 use Rattle.order_laws.specs.declared.Point.{Point}
-use Rattle.order_laws.specs.declared.Point.TheVariants.{Start, End, Date}
+use Rattle.order_laws.specs.declared.Point.TheVariants.{Date}
 use Rattle.order_laws.specs.declared.Position.{Position}
 use Rattle.order_laws.specs.declared.Reach.{Reach}
 use Rattle.order_laws.specs.Positions.{Stand, IsBefore}

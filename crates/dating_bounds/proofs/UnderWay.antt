@@ -1,7 +1,6 @@
 -- Whether an extent is under way at a date: what follows decides, and the two placings show what may be.
-use Rattle.std.proofs.Common.{zero, suc, ◌≡◌, ℕ, ℤ, pos, List, [], ◌∷◌, ◌++◌, Bool, true, false, ◌+◌, ◌*◌, ◌<◌, ◌≤◌, length, get_or, arith, inl, inr, refl, subst, ap, sym, ◌∙◌}
-use Rattle.std.specs.Prelude.{◌&&◌, ◌||◌, ◌↔◌}
-use Rattle.std.proofs.lemmas.Int.{ints}
+use Rattle.std.proofs.Common.{zero, suc, ◌≡◌, ℕ, ℤ, pos, List, [], ◌∷◌, ◌++◌, Bool, true, false, ◌*◌, ◌<◌, length, get_or, arith, inl, inr, refl, subst, sym, ◌∙◌}
+use Rattle.std.specs.Prelude.{◌&&◌, ◌||◌}
 use Rattle.std.proofs.lemmas.Bool.{cases_Bool, true≢false}
 use Rattle.order_laws.specs.declared.Order.{Order}
 use Rattle.order_laws.specs.declared.Point.{Point}
@@ -13,31 +12,29 @@ use Rattle.order_laws.specs.Chains.{order_at, HasCycle}
 use Rattle.order_laws.specs.Closure.{reach_between}
 use Rattle.order_laws.specs.Placings.{IsSatisfied, position_at}
 use Rattle.order_laws.specs.Positions.{Stand, IsBefore}
-use Rattle.order_laws.specs.Tables.{is_known, is_strict, IsPoint, built, IsOrderSet, IsOrderly}
+use Rattle.order_laws.specs.Tables.{is_known, is_strict, IsPoint, IsOrderSet, IsOrderly}
 use Rattle.order_laws.specs.Wider.{wider, widened, plain_placing, delaying_placing}
 use Rattle.order_laws.proofs.Hold.{stand_twice, never_before_self, cycle_refutes}
-use Rattle.order_laws.proofs.Closure.{has, follows_entry}
+use Rattle.order_laws.proofs.Closure.{follows_entry}
 use Rattle.order_laws.proofs.LawD.{known_of_strict}
-use Rattle.order_laws.proofs.Placed.{computed_orderly, plain_satisfies, delaying_satisfies, delayed_before, wide, built_length, always_follows}
+use Rattle.order_laws.proofs.Placed.{computed_orderly, plain_satisfies, delaying_satisfies, delayed_before, wide, built_length}
 use Rattle.order_core.specs.Sets.{Orders, AreInRange}
 use Rattle.order_extension.proofs.Further.{Stands, satisfied_both, further_is_set}
-use Rattle.dating_bounds.specs.declared.moments.During.{During}
-use Rattle.dating_bounds.specs.declared.moments.During.TheVariants.{Surely, Never, Maybe}
-use Rattle.dating_bounds.specs.Moment.{IsUnderWay, IsPlacingOf, IsDuring, is_surely, is_never, order_to, inside_orders, outside_order, plain_with, maybe_of, during_of}
+use Rattle.dating_bounds.specs.Moment.{IsUnderWay, IsPlacingOf, IsDuring, is_surely, is_never, order_to, inside_orders, outside_order, plain_with, during_of}
 use Rattle.dating_bounds.proofs.Halves.{is_false}
-use Rattle.dating_bounds.proofs.Standing.{on_date, at_or_before_date, weaken}
+use Rattle.dating_bounds.proofs.Standing.{at_or_before_date}
 use Rattle.dating_bounds.proofs.Bounding.{always_of, good}
 
-both : (a b : Bool) → (a && b) ≡ true → (a ≡ true) × (b ≡ true)
+pub both : (a b : Bool) → (a && b) ≡ true → (a ≡ true) × (b ≡ true)
 both true true h = (refl, refl)
 both true false h = absurd (true≢false (sym h))
 both false b h = absurd (true≢false (sym h))
 
-neither : (a b : Bool) → (a || b) ≡ false → (a ≡ false) × (b ≡ false)
+pub neither : (a b : Bool) → (a || b) ≡ false → (a ≡ false) × (b ≡ false)
 neither true b h = absurd (true≢false h)
 neither false b h = (refl, h)
 
-not_first : (a b : Bool) → (a && b) ≡ false → a ≡ true → b ≡ false
+pub not_first : (a b : Bool) → (a && b) ≡ false → a ≡ true → b ≡ false
 not_first true b h e = h
 not_first false b h e = absurd (true≢false (sym e))
 
@@ -63,7 +60,7 @@ two_orders o r dates placing s z zero h = s
 two_orders o r dates placing s z (suc zero) h = z
 two_orders o r dates placing s z (suc (suc n)) h = absurd (omega arith)
 
-one_in_range : (extents dates : ℕ) (o : Order) → IsPoint extents dates o.low → IsPoint extents dates o.high → AreInRange extents dates (o ∷ [])
+pub one_in_range : (extents dates : ℕ) (o : Order) → IsPoint extents dates o.low → IsPoint extents dates o.high → AreInRange extents dates (o ∷ [])
 one_in_range extents dates o low high = record {
   low = λ n. elim n as (λ m. m < length (o ∷ []) → IsPoint extents dates (order_at (o ∷ []) m).low) [ zero ↦ λ h. low | suc m ↦ λ h. absurd (omega arith) ];
   high = λ n. elim n as (λ m. m < length (o ∷ []) → IsPoint extents dates (order_at (o ∷ []) m).high) [ zero ↦ λ h. high | suc m ↦ λ h. absurd (omega arith) ];
@@ -112,7 +109,7 @@ nothing_is Lt h = absurd (true≢false h)
 module _ (set : Orders) (keeps : IsOrderSet set.list set.extents set.dates) (no_cycle : HasCycle set.list → ⊥) (date k : ℕ)
     (in_dates : date < length set.dates) (in_extents : k < set.extents) where
   -- the end of an extent does not lead to its start
-  end_apart : reach_between set.list (End k) (Start k) ≡ Nothing
+  pub end_apart : reach_between set.list (End k) (Start k) ≡ Nothing
   end_apart =
       nothing_is _ (is_false _ (λ e.
       (let g : IsOrderly set.list set.extents (length set.dates) (reach_between set.list) = good set keeps no_cycle in

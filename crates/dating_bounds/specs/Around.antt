@@ -1,5 +1,5 @@
 -- The dates that bound a boundary from below and from above.
-use Rattle.std.specs.Prelude.{zero, suc, ℕ, ◌≡◌, ◌<◌, ◌↔◌, Bool, true, false, cond, nat_lt, List, length, Option, Some, None}
+use Rattle.std.specs.Prelude.{zero, suc, ℕ, ◌≡◌, ◌<◌, ◌↔◌, Bool, true, false, cond, nat_lt, length, Option, Some, None}
 use Rattle.order_laws.specs.declared.Point.{Point}
 use Rattle.order_laws.specs.declared.Point.TheVariants.{Start, End, Date}
 use Rattle.order_laws.specs.declared.Reach.{Reach}

@@ -1,3 +1,4 @@
 pub mod Around
 pub mod Dated
 pub mod Moment
+pub mod Pushed

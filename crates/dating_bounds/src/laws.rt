@@ -1,17 +1,20 @@
 // Laws over dates and placings: each is the contract of a function with nothing to do.
-ghost use Rattle.std.specs.Prelude.{◌≡◌, ◌<◌, ◌↔◌, ℕ, ℤ, pos, List, Some, None, false, true, length, IfSome, slice_index_or};
+ghost use Rattle.std.specs.Prelude.{◌≡◌, ◌<◌, ◌↔◌, ◌∷◌, ◌++◌, [], ℕ, ℤ, pos, List, Some, None, false, true, length, IfSome, slice_index_or};
+ghost use Rattle.order_laws.specs.declared.Order.{Order};
 ghost use Rattle.order_laws.specs.declared.Point.{Point};
 ghost use Rattle.order_laws.specs.declared.Point.TheVariants.{Date};
 ghost use Rattle.order_laws.specs.declared.Position.{Position};
 ghost use Rattle.order_laws.specs.Chains.{HasCycle};
 ghost use Rattle.order_laws.specs.Placings.{IsSatisfied, position_at};
 ghost use Rattle.order_laws.specs.Positions.{IsBefore};
-ghost use Rattle.order_laws.specs.Tables.{IsOrderSet};
+ghost use Rattle.order_laws.specs.Closure.{reach_between};
+ghost use Rattle.order_laws.specs.Tables.{IsPoint, IsOrderSet};
 ghost use Rattle.order_laws.specs.Wider.{plain_placing, delaying_placing};
 ghost use Rattle.order_core.specs.Sets.{Orders};
 ghost use Rattle.dating_bounds.specs.Around.{IsBoundary, IsBoundOf, Always, bound_of};
 ghost use Rattle.dating_bounds.specs.Dated.{dated, place_of};
 ghost use Rattle.dating_bounds.specs.Moment.{IsDuring, during_of};
+ghost use Rattle.dating_bounds.specs.Pushed.{IsPush, pushed};
 
 /// The computed bounds are the last date that every satisfying placing has at or before the boundary, and the first that every
 /// one has at or after it.
@@ -64,4 +67,12 @@ pub fn dates_make_no_cycle()
 pub fn extents_are_under_way_in_placings()
     ensures { (set : Orders) (t : ℤ) (k : ℕ) → IsOrderSet set.list set.extents set.dates → ¬ HasCycle set.list → k < set.extents →
         IsDuring set t k (during_of (dated set t) (place_of set.dates t) k) }
+{}
+
+/// One more order between a boundary and a date moves what is behind it to the date, and leaves all else where the plain
+/// placing has it.
+pub fn one_more_order_pushes_to_its_date()
+    ensures { (set : Orders) (date : ℕ) (order : Order) → IsOrderSet set.list set.extents set.dates → ¬ HasCycle set.list → date < length set.dates →
+        IsPoint set.extents (length set.dates) order.low → IsPoint set.extents (length set.dates) order.high → IsPush (reach_between set.list) date order →
+        plain_placing (set.list ++ order ∷ []) set.extents set.dates ≡ pushed set.extents set.dates (reach_between set.list) date order }
 {}

@@ -1,15 +1,14 @@
 // Whether an extent is under way at a date.
 ghost use Rattle.std.specs.Prelude.{◌≡◌, ◌+◌, ◌<◌, ◌^◌, ◌++◌, pos, false, length, slice_index_or, IfOk};
 ghost use Rattle.order_laws.specs.Chains.{HasCycle};
-ghost use Rattle.order_core.specs.Sets.{AreInRange};
-ghost use Rattle.order_closure.specs.Closures.{IsClosureOf, between};
+ghost use Rattle.order_laws.specs.Closure.{reach_between};
+ghost use Rattle.order_closure.specs.Closures.{IsClosureOf};
 ghost use Rattle.dating_bounds.specs.Moment as spec;
+ghost use Rattle.dating_bounds.specs.Pushed.{inside_order};
 
-use crate::following::follows;
+use crate::pushes::Shares;
 use order_closure::Closure;
-use order_core::{By, Order, OrderList, OrderSet, Placing, Point};
-use order_extension::with_orders;
-use placing_witness::plain;
+use order_core::{By, Order, OrderSet, Placing, Point};
 use std::alloc::{AllocError, Global};
 
 /// Whether an extent is under way at an instant: in every placing that satisfies the orders, in none, or in one and not in
@@ -21,22 +20,22 @@ pub enum During {
     Maybe { inside: Placing, outside: Placing },
 }
 
-fn is_surely(closure: &Closure, date: u32, k: u32) -> bool
-    requires date { date < closure.now.dates }
-    requires extent { k < closure.now.extents }
-    ensures { result ≡ spec.is_surely (between closure.now) date k }
+fn is_surely(shares: &Shares, date: u32, k: u32) -> bool
+    requires date { date < length shares.now.dates }
+    requires extent { k < shares.now.extents }
+    ensures { result ≡ spec.is_surely (reach_between shares.now.list) date k }
 {
-    follows(closure, Point::Start(k), Point::Date(date), false)
-        && follows(closure, Point::Date(date), Point::End(k), true)
+    shares.follows(Point::Start(k), Point::Date(date), false)
+        && shares.follows(Point::Date(date), Point::End(k), true)
 }
 
-fn is_never(closure: &Closure, date: u32, k: u32) -> bool
-    requires date { date < closure.now.dates }
-    requires extent { k < closure.now.extents }
-    ensures { result ≡ spec.is_never (between closure.now) date k }
+fn is_never(shares: &Shares, date: u32, k: u32) -> bool
+    requires date { date < length shares.now.dates }
+    requires extent { k < shares.now.extents }
+    ensures { result ≡ spec.is_never (reach_between shares.now.list) date k }
 {
-    follows(closure, Point::Date(date), Point::Start(k), true)
-        || follows(closure, Point::End(k), Point::Date(date), false)
+    shares.follows(Point::Date(date), Point::Start(k), true)
+        || shares.follows(Point::End(k), Point::Date(date), false)
 }
 
 fn order_to(k: u32, low: Point, high: Point, strict: bool) -> Order
@@ -50,65 +49,65 @@ fn order_to(k: u32, low: Point, high: Point, strict: bool) -> Order
     }
 }
 
-fn inside_orders(alloc: Global, date: u32, k: u32) -> Result<OrderList, AllocError>
-    ensures { IfOk result (λ more. more ≡ spec.inside_orders date k) }
+// The order that puts an extent under way. An extent that starts at the date at the earliest ends after it in any case, and of
+// one that may start earlier the plain placing has the start before the date.
+fn inside_order(shares: &Shares, date: u32, k: u32) -> Order
+    requires date { date < length shares.now.dates }
+    requires extent { k < shares.now.extents }
+    ensures { result ≡ inside_order (reach_between shares.now.list) date k }
 {
-    let mut more = OrderList::new(alloc);
-    more.push(order_to(k, Point::Start(k), Point::Date(date), false))?;
-    more.push(order_to(k, Point::Date(date), Point::End(k), true))?;
-    Ok(more)
+    if shares.follows(Point::Date(date), Point::Start(k), false) {
+        order_to(k, Point::Start(k), Point::Date(date), false)
+    } else {
+        order_to(k, Point::Date(date), Point::End(k), true)
+    }
 }
 
-fn outside_order(closure: &Closure, date: u32, k: u32) -> Order
-    requires date { date < closure.now.dates }
-    requires extent { k < closure.now.extents }
-    ensures { result ≡ spec.outside_order (between closure.now) date k }
+fn outside_order(shares: &Shares, date: u32, k: u32) -> Order
+    requires date { date < length shares.now.dates }
+    requires extent { k < shares.now.extents }
+    ensures { result ≡ spec.outside_order (reach_between shares.now.list) date k }
 {
-    if follows(closure, Point::Start(k), Point::Date(date), false) {
+    if shares.follows(Point::Start(k), Point::Date(date), false) {
         order_to(k, Point::End(k), Point::Date(date), false)
     } else {
         order_to(k, Point::Date(date), Point::Start(k), true)
     }
 }
 
-// The plain placing of the set with further orders.
-fn plain_with(alloc: Global, set: &OrderSet, more: OrderList) -> Result<Placing, AllocError>
-    requires few { length set.now.list + length more < 2 ^ 32 }
-    requires in_range { AreInRange set.now.extents (length set.now.dates) more }
-    requires consistent { ¬ HasCycle (set.now.list ++ more) }
-    ensures { IfOk result (λ p. p ≡ spec.plain_with set.now more) }
-{
-    let extended = with_orders(alloc, set, more)?;
-    let closure = Closure::build(alloc, &extended)?;
-    plain(alloc, &extended, &closure)
-}
-
 // The two placings of an extent that may be under way.
-fn maybe(
-    alloc: Global,
-    set: &OrderSet,
-    closure: &Closure,
-    date: u32,
-    k: u32,
-) -> Result<During, AllocError>
-    requires closure { IsClosureOf set.now closure.now }
-    requires consistent { ¬ HasCycle set.now.list }
-    requires date { date < length set.now.dates }
-    requires extent { k < set.now.extents }
-    requires few { length set.now.list + 2 < 2 ^ 32 }
-    requires unsure { spec.is_surely (between closure.now) date k ≡ false }
-    requires possible { spec.is_never (between closure.now) date k ≡ false }
-    ensures { IfOk result (λ d. d ≡ spec.maybe_of set.now date k) }
+fn maybe(alloc: Global, shares: &Shares, date: u32, k: u32) -> Result<During, AllocError>
+    requires date { date < length shares.now.dates }
+    requires extent { k < shares.now.extents }
+    requires unsure { spec.is_surely (reach_between shares.now.list) date k ≡ false }
+    requires possible { spec.is_never (reach_between shares.now.list) date k ≡ false }
+    ensures { IfOk result (λ d. d ≡ spec.maybe_of shares.now date k) }
 {
-    let inside = plain_with(alloc, set, inside_orders(alloc, date, k)?)?;
-    let mut more = OrderList::new(alloc);
-    more.push(outside_order(closure, date, k))?;
-    let outside = plain_with(alloc, set, more)?;
+    shares.conditions();
+    let inside = shares.with_order(alloc, date, &inside_order(shares, date, k))?;
+    let outside = shares.with_order(alloc, date, &outside_order(shares, date, k))?;
     Ok(During::Maybe { inside, outside })
 }
 
-/// Whether an extent is under way at a date of consistent orders, from their closure, with the plain placing of the orders
-/// that has it so, and one that has not, where both are there.
+/// Whether an extent is under way at a date of consistent orders, with the plain placing of the orders that has it so, and one
+/// that has not, where both are there.
+pub fn at_date(alloc: Global, shares: &Shares, date: u32, k: u32) -> Result<During, AllocError>
+    requires date { date < length shares.now.dates }
+    requires extent { k < shares.now.extents }
+    ensures during { IfOk result (spec.IsDuring shares.now (slice_index_or shares.now.dates date (pos 0)) k) }
+    ensures computed { IfOk result (λ d. d ≡ spec.during_of shares.now date k) }
+{
+    shares.conditions();
+    if is_surely(shares, date, k) {
+        return Ok(During::Surely);
+    }
+    if is_never(shares, date, k) {
+        return Ok(During::Never);
+    }
+    maybe(alloc, shares, date, k)
+}
+
+/// The same from the orders and their closure, for a caller that asks of one extent.
 pub fn at_instant(
     alloc: Global,
     set: &OrderSet,
@@ -120,15 +119,9 @@ pub fn at_instant(
     requires consistent { ¬ HasCycle set.now.list }
     requires date { date < length set.now.dates }
     requires extent { k < set.now.extents }
-    requires few { length set.now.list + 2 < 2 ^ 32 }
     ensures during { IfOk result (spec.IsDuring set.now (slice_index_or set.now.dates date (pos 0)) k) }
     ensures computed { IfOk result (λ d. d ≡ spec.during_of set.now date k) }
 {
-    if is_surely(closure, date, k) {
-        return Ok(During::Surely);
-    }
-    if is_never(closure, date, k) {
-        return Ok(During::Never);
-    }
-    maybe(alloc, set, closure, date, k)
+    let shares = Shares::build(alloc, set, closure)?;
+    at_date(alloc, &shares, date, k)
 }

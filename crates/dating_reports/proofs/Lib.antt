@@ -1,2 +1,4 @@
 pub mod Each
 pub mod Cycles
+pub mod Instants
+pub mod Telling

@@ -4,21 +4,22 @@ ghost use Rattle.std.specs.List.{flat_map};
 ghost use Rattle.order_laws.specs.Chains.{HasCycle};
 ghost use Rattle.order_laws.specs.Closure.{reach_between};
 ghost use Rattle.order_laws.specs.Tables.{IsPoint, is_strict};
+ghost use Rattle.order_laws.specs.Wider as wider;
 ghost use Rattle.order_core.specs.Primitives.{points_of};
 ghost use Rattle.crm_outside.specs.Printing.{Prints};
 ghost use Rattle.order_analysis.specs.Reasons.{reason_of};
 ghost use Rattle.reason_report.specs.Answers as spec;
 
-use crate::delays::append_delay;
+use crate::delays::append_delaying;
 use crate::report::print_inconsistent;
 use chain_certificate::Chain;
 use crm_outside::{PrintFault, Sink, print_text};
 use order_analysis::Analysis;
 use order_closure::Reach;
-use order_core::{OrderSet, Point, Primitive, points};
+use order_core::{OrderSet, Placing, Point, Primitive, points};
 use order_texts::{append_chain, append_order};
-use placing_witness::Placings;
-use std::alloc::{AllocError, Global};
+use placing_witness::delaying;
+use std::alloc::AllocError;
 
 /// What is known of a primitive between two periods.
 #[derive(Clone, Copy, Debug, PartialEq, Eq)]
@@ -90,21 +91,31 @@ fn append_holds(
     append_steps(set, chain, line)
 }
 
+// The placing that delays the boundary, made alone: what all of them share takes many times its time.
+fn delaying_placing(analysis: &Analysis, x: Point) -> Result<Placing, AllocError>
+    requires consistent { ¬ HasCycle analysis.now.set.list }
+    requires x { IsPoint analysis.now.set.extents (length analysis.now.set.dates) x }
+    ensures { IfOk result (λ p. p ≡ wider.delaying_placing analysis.now.set.list analysis.now.set.extents analysis.now.set.dates x) }
+{
+    delaying(analysis.alloc(), analysis.set(), analysis.closure(), x)
+}
+
 #[tactic(auto, unfolding(crate::specs::Answers::fails_text))]
 fn append_fails(
-    alloc: Global,
-    placings: &Placings,
+    analysis: &Analysis,
     primitive: Primitive,
     x: Point,
     line: &mut Vec<u8>,
 ) -> Result<(), AllocError>
-    requires { IsPoint placings.now.extents (length placings.now.dates) x }
-    ensures { OnOk result (line.new.items ≡ line.old.items ++ spec.fails_text placings.now primitive x) }
+    requires consistent { ¬ HasCycle analysis.now.set.list }
+    requires x { IsPoint analysis.now.set.extents (length analysis.now.set.dates) x }
+    ensures { OnOk result (line.new.items ≡ line.old.items ++ spec.fails_text analysis.now.set primitive x) }
 {
     line.extend_from_slice(b"fails ")?;
     line.extend_from_slice(primitive.code().as_bytes())?;
     line.push(b'\n')?;
-    append_delay(alloc, placings, x, line)
+    let placing = delaying_placing(analysis, x)?;
+    append_delaying(analysis.alloc(), x, &placing, line)
 }
 
 fn points_within(analysis: &Analysis, primitive: Primitive, a: u32, b: u32) -> (Point, Point, bool)
@@ -139,8 +150,7 @@ fn append_verdict(
         append_holds(analysis.set(), primitive, chain.as_slice(), line)?;
         return Ok(Answer::Holds);
     }
-    let placings = analysis.placings()?;
-    append_fails(analysis.alloc(), &placings, primitive, x, line)?;
+    append_fails(analysis, primitive, x, line)?;
     Ok(Answer::Fails)
 }
 

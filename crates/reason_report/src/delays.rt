@@ -3,17 +3,32 @@ ghost use Rattle.std.specs.Prelude.{◌≡◌, ◌++◌, ◌<◌, length, OnOk};
 ghost use Rattle.std.specs.List.{flat_map};
 ghost use Rattle.order_laws.specs.Tables.{IsPoint};
 ghost use Rattle.crm_outside.specs.Printing.{Prints};
+ghost use Rattle.order_texts.specs.Texts.{point_text, placing_line};
 ghost use Rattle.reason_report.specs.Reason as spec;
 
 use crm_outside::{PrintFault, Sink, print_text};
 use order_analysis::Analysis;
-use order_core::Point;
+use order_core::{Placing, Point};
 use order_texts::{append_placing, append_point};
 use placing_witness::Placings;
 use std::alloc::{AllocError, Global};
 
-/// Appends the line of the placing that delays the boundary.
-pub fn append_delay(
+/// Appends the line of a placing under the name of the boundary that it delays.
+pub fn append_delaying(
+    alloc: Global,
+    x: Point,
+    placing: &Placing,
+    line: &mut Vec<u8>,
+) -> Result<(), AllocError>
+    ensures { OnOk result (line.new.items ≡ line.old.items ++ placing_line (point_text x) placing.now) }
+{
+    let mut name = Vec::new(alloc);
+    append_point(x, &mut name)?;
+    append_placing(&name, placing, line)
+}
+
+// Appends the line of the placing that delays the boundary.
+fn append_delay(
     alloc: Global,
     placings: &Placings,
     x: Point,
@@ -22,10 +37,8 @@ pub fn append_delay(
     requires { IsPoint placings.now.extents (length placings.now.dates) x }
     ensures { OnOk result (line.new.items ≡ line.old.items ++ spec.delay_line placings.now x) }
 {
-    let mut name = Vec::new(alloc);
-    append_point(x, &mut name)?;
     let placing = placings.delaying(alloc, x)?;
-    append_placing(&name, &placing, line)
+    append_delaying(alloc, x, &placing, line)
 }
 
 fn append_both(

@@ -16,9 +16,9 @@ use crm_outside::{PrintFault, Sink, print_text};
 use itoa::Buffer;
 use order_analysis::Analysis;
 use order_closure::Reach;
-use order_core::{OrderSet, Point, Primitive, Side};
+use order_core::{Point, Primitive, Side};
 use order_texts::append_chain;
-use std::alloc::{AllocError, Global};
+use std::alloc::AllocError;
 
 /// A relation of two periods that follows from a set of orders: the boundary of the left one is at or
 /// before that of the right one, or before it where `strict` is set.
@@ -28,6 +28,14 @@ pub struct Relation {
     pub right: u32,
     pub side: Side,
     pub strict: bool,
+}
+
+// A period, and the chains from its boundaries.
+#[derive(Drop)]
+struct Row {
+    period: u32,
+    from_start: Routes,
+    from_end: Routes,
 }
 
 fn append_codes(side: Side, strict: bool, line: &mut Vec<u8>) -> Result<(), AllocError>
@@ -50,20 +58,19 @@ fn append_period(k: u32, line: &mut Vec<u8>) -> Result<(), AllocError>
 
 /// Appends the chain from the source of the routes to a target, one that shows `<` where `strict` is set.
 pub fn append_reason(
-    alloc: Global,
-    set: &OrderSet,
+    analysis: &Analysis,
     routes: &Routes,
     source: Point,
     target: Point,
     strict: bool,
     line: &mut Vec<u8>,
 ) -> Result<(), AllocError>
-    requires routes { IsRoutesOf set.now source routes.now }
-    requires target { IsPoint set.now.extents (length set.now.dates) target }
-    requires strict { strict ≡ is_strict (reach_between set.now.list source target) }
-    ensures { OnOk result (line.new.items ≡ line.old.items ++ spec.reason_text set.now.list source target) }
+    requires routes { IsRoutesOf analysis.now.set source routes.now }
+    requires target { IsPoint analysis.now.set.extents (length analysis.now.set.dates) target }
+    requires strict { strict ≡ is_strict (reach_between analysis.now.set.list source target) }
+    ensures { OnOk result (line.new.items ≡ line.old.items ++ spec.reason_text analysis.now.set.list source target) }
 {
-    match routes.chain(alloc, target, strict)? {
+    match routes.chain(analysis.alloc(), target, strict)? {
         Some(chain) => append_chain(chain.as_slice(), line),
         None => Ok(()),
     }
@@ -71,16 +78,15 @@ pub fn append_reason(
 
 #[tactic(auto, unfolding(crate::specs::Reason::relation_line))]
 fn append_relation(
-    alloc: Global,
-    set: &OrderSet,
+    analysis: &Analysis,
     routes: &Routes,
     relation: Relation,
     line: &mut Vec<u8>,
 ) -> Result<(), AllocError>
-    requires routes { IsRoutesOf set.now (left_point relation.side relation.left) routes.now }
-    requires right { relation.right < set.now.extents }
-    requires strict { relation.strict ≡ is_strict (reach_at set.now.list relation.left relation.right relation.side) }
-    ensures { OnOk result (line.new.items ≡ line.old.items ++ spec.relation_line set.now.list relation) }
+    requires routes { IsRoutesOf analysis.now.set (left_point relation.side relation.left) routes.now }
+    requires right { relation.right < analysis.now.set.extents }
+    requires strict { relation.strict ≡ is_strict (reach_at analysis.now.set.list relation.left relation.right relation.side) }
+    ensures { OnOk result (line.new.items ≡ line.old.items ++ spec.relation_line analysis.now.set.list relation) }
 {
     append_codes(relation.side, relation.strict, line)?;
     append_period(relation.left, line)?;
@@ -88,7 +94,7 @@ fn append_relation(
     line.extend_from_slice(b" by")?;
     let left = relation.side.left(relation.left);
     let right = relation.side.right(relation.right);
-    append_reason(alloc, set, routes, left, right, relation.strict, line)?;
+    append_reason(analysis, routes, left, right, relation.strict, line)?;
     line.push(b'\n')?;
     Ok(())
 }
@@ -117,48 +123,40 @@ fn append_side(
         side,
         strict,
     };
-    append_relation(analysis.alloc(), analysis.set(), routes, relation, line)
+    append_relation(analysis, routes, relation, line)
 }
 
 // The lines of the relations of two periods, side by side.
-fn append_pair(
-    analysis: &Analysis,
-    from_start: &Routes,
-    from_end: &Routes,
-    a: u32,
-    b: u32,
-    line: &mut Vec<u8>,
-) -> Result<(), AllocError>
-    requires start { IsRoutesOf analysis.now.set (Start a) from_start.now }
-    requires end { IsRoutesOf analysis.now.set (End a) from_end.now }
+fn append_pair(analysis: &Analysis, row: &Row, b: u32, line: &mut Vec<u8>) -> Result<(), AllocError>
+    requires start { IsRoutesOf analysis.now.set (Start row.now.period) row.now.from_start }
+    requires end { IsRoutesOf analysis.now.set (End row.now.period) row.now.from_end }
     requires right { b < analysis.now.set.extents }
-    ensures { OnOk result (line.new.items ≡ line.old.items ++ spec.pair_text analysis.now.set.list a b) }
+    ensures { OnOk result (line.new.items ≡ line.old.items ++ spec.pair_text analysis.now.set.list row.now.period b) }
 {
+    let a = row.period;
     if a == b {
         return Ok(());
     }
-    append_side(analysis, from_start, a, b, Side::StartEnd, line)?;
-    append_side(analysis, from_start, a, b, Side::StartStart, line)?;
-    append_side(analysis, from_end, a, b, Side::EndStart, line)?;
-    append_side(analysis, from_end, a, b, Side::EndEnd, line)
+    append_side(analysis, &row.from_start, a, b, Side::StartEnd, line)?;
+    append_side(analysis, &row.from_start, a, b, Side::StartStart, line)?;
+    append_side(analysis, &row.from_end, a, b, Side::EndStart, line)?;
+    append_side(analysis, &row.from_end, a, b, Side::EndEnd, line)
 }
 
 fn print_pair<W: Sink>(
     analysis: &Analysis,
-    from_start: &Routes,
-    from_end: &Routes,
-    a: u32,
+    row: &Row,
     b: u32,
     line: &mut Vec<u8>,
     out: &mut W,
 ) -> Result<(), PrintFault>
-    requires start { IsRoutesOf analysis.now.set (Start a) from_start.now }
-    requires end { IsRoutesOf analysis.now.set (End a) from_end.now }
+    requires start { IsRoutesOf analysis.now.set (Start row.now.period) row.now.from_start }
+    requires end { IsRoutesOf analysis.now.set (End row.now.period) row.now.from_end }
     requires right { b < analysis.now.set.extents }
-    ensures { Prints W.written W.faults W.sure out.old out.new (spec.pair_text analysis.now.set.list a b) result }
+    ensures { Prints W.written W.faults W.sure out.old out.new (spec.pair_text analysis.now.set.list row.now.period b) result }
 {
     line.clear();
-    let Ok(()) = append_pair(analysis, from_start, from_end, a, b, line) else {
+    let Ok(()) = append_pair(analysis, row, b, line) else {
         return Err(PrintFault::Memory);
     };
     print_text(out, line.as_slice())
@@ -166,21 +164,19 @@ fn print_pair<W: Sink>(
 
 fn print_row<W: Sink>(
     analysis: &Analysis,
-    from_start: &Routes,
-    from_end: &Routes,
-    a: u32,
+    row: &Row,
     line: &mut Vec<u8>,
     out: &mut W,
 ) -> Result<(), PrintFault>
-    requires start { IsRoutesOf analysis.now.set (Start a) from_start.now }
-    requires end { IsRoutesOf analysis.now.set (End a) from_end.now }
-    ensures { Prints W.written W.faults W.sure out.old out.new (spec.row_text analysis.now.set.list analysis.now.periods a) result }
+    requires start { IsRoutesOf analysis.now.set (Start row.now.period) row.now.from_start }
+    requires end { IsRoutesOf analysis.now.set (End row.now.period) row.now.from_end }
+    ensures { Prints W.written W.faults W.sure out.old out.new (spec.row_text analysis.now.set.list analysis.now.periods row.now.period) result }
 {
     for i in 0..analysis.len() {
         let Some(b) = analysis.period(i) else {
             unreachable!()
         };
-        print_pair(analysis, from_start, from_end, a, b, line, out)?;
+        print_pair(analysis, row, b, line, out)?;
     }
     Ok(())
 }
@@ -200,7 +196,12 @@ fn print_period<W: Sink>(
     let Ok(from_end) = analysis.routes(Point::End(a)) else {
         return Err(PrintFault::Memory);
     };
-    print_row(analysis, &from_start, &from_end, a, line, out)
+    let row = Row {
+        period: a,
+        from_start,
+        from_end,
+    };
+    print_row(analysis, &row, line, out)
 }
 
 /// Prints the lines of all relations that follow, by the numbers of the left and then of the right period.

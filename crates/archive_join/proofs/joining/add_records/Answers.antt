@@ -5,9 +5,9 @@ use Rattle.std.proofs.lemmas.Result.{err_from_is_err_and}
 use Rattle.crm_outside.proofs.Lists.{within}
 use Rattle.archive_join.specs.declared.faults.JoinFault.{JoinFault}
 use Rattle.archive_join.specs.declared.faults.JoinFault.TheVariants.{Refused}
-use Rattle.archive_join.specs.Values.{value_triple}
-use Rattle.archive_join.specs.Joining.{moved, behind_triple}
-use Rattle.archive_join.specs.Named.{IsPastWith}
+use Rattle.joined_names.specs.Values.{value_triple, moved}
+use Rattle.archive_join.specs.Joining.{behind_triple}
+use Rattle.archive_join.specs.Limits.{IsPastWith}
 use Rattle.archive_join.proofs.Adding.{IsAdded, added_none, added_one, added_all, refused_next}
 use Rattle.archive_join.proofs.joining.add_records.Goals as goal
 

@@ -1,6 +1,6 @@
 use Rattle.std.specs.Prelude.{map, string_bytes}
 use Rattle.crm_outside.specs.Causes.{Rose}
-use Rattle.crm_run.specs.Tasks.{task_named}
+use Rattle.command_words.specs.Tasks.{task_named}
 use Rattle.crm_run.proofs.Endings.{calm, certain}
 use Rattle.crm_run.proofs.Headlines.{headline}
 use Rattle.crm_run.proofs.running.run.Goals as goal
@@ -19,6 +19,6 @@ returns-clause-certain g c = λ honest.
 pub returns-clause-headline : goal.returns-clause-headline
 returns-clause-headline g c =
     headline c.reports_are_true.ensures c.answers_are_true.ensures c.orders_of_records_are_a_set.ensures.orders c.orders_of_records_are_a_set.ensures.periods
-    g.W.Sink.written g.W.Sink.faults g.W.Sink.sure c.args.out.now c.run_words.new.out c.run_words.result
+    c.tables_are_true.ensures c.lists_are_true.ensures c.bounds_are_true.ensures c.moments_are_true.ensures c.conflicts_are_true.ensures g.W.Sink.written g.W.Sink.faults g.W.Sink.sure c.args.out.now c.run_words.new.out c.run_words.result
     (Rose (g.S.Shelf.faults c.args.shelf.now) (g.S.Shelf.faults c.run_words.new.shelf)) (g.S.Shelf.files c.args.shelf.now) (task_named (map string_bytes c.args.words.now))
     c.run_words.ensures.runs.report

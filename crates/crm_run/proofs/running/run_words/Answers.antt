@@ -1,11 +1,11 @@
 use Rattle.std.proofs.Common.{◌∙◌, sym, subst, Option, IfSome}
 use Rattle.std.specs.Prelude.{map, string_bytes}
 use Rattle.crm_outside.specs.Causes.{Rose}
-use Rattle.crm_run.specs.declared.tasks.Task.{Task}
+use Rattle.command_words.specs.declared.tasks.Task.{Task}
 use Rattle.crm_run.specs.Runs.{Runs}
-use Rattle.crm_run.specs.Tasks.{IsSound}
+use Rattle.command_words.specs.Tasks.{IsSound}
 use Rattle.crm_run.proofs.Runs.{starved_run, usage_run}
-use Rattle.crm_run.proofs.Soundness.{task_sound}
+use Rattle.command_words.proofs.Soundness.{task_sound}
 use Rattle.crm_run.proofs.running.run_words.Goals as goal
 
 pub run_task-requires : goal.run_task-requires

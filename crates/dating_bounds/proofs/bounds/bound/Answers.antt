@@ -1,10 +1,7 @@
-use Rattle.std.proofs.Common.{◌≡◌, ℕ, ℤ, List, length, ap, sym, ◌∙◌, subst}
-use Rattle.std.specs.Prelude.{Option}
+use Rattle.std.proofs.Common.{◌≡◌, ℤ, List, length, ap, sym, ◌∙◌, subst}
 use Rattle.order_closure.specs.Closures.{between}
 use Rattle.dating_bounds.specs.declared.extremes.Bound.{Bound}
-use Rattle.dating_bounds.specs.declared.extremes.DateBound.{DateBound}
-use Rattle.dating_bounds.specs.Around.{IsBoundOf, ceiling_of, low_at, high_at, bound_of}
-use Rattle.order_laws.specs.Tables.{floor_of}
+use Rattle.dating_bounds.specs.Around.{IsBoundOf, low_at, high_at}
 use Rattle.dating_bounds.proofs.Agreeing.{bound_computed}
 use Rattle.dating_bounds.proofs.Bounding.{boundary_point, bound_is}
 use Rattle.dating_bounds.proofs.bounds.bound.Goals as goal

@@ -1,4 +1,4 @@
-use Rattle.std.proofs.Common.{◌≡◌, ℕ, ◌+◌, ◌-◌, ◌/◌, ◌<◌, length, true, false, arith, sym, ◌∙◌}
+use Rattle.std.proofs.Common.{◌+◌, ◌-◌, ◌/◌, length, arith, sym, ◌∙◌}
 use Rattle.order_closure.specs.Closures.{between}
 use Rattle.dating_bounds.proofs.Agreeing.{between_orderly}
 use Rattle.dating_bounds.proofs.Halves.{floor_is, known_so_far, unknown_from}

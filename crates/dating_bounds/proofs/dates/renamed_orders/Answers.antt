@@ -1,4 +1,4 @@
-use Rattle.std.proofs.Common.{◌≡◌, ℕ, List, [], ◌∷◌, ◌++◌, length, map, take, arith, sym, ap, ◌∙◌}
+use Rattle.std.proofs.Common.{List, [], ◌∷◌, ◌++◌, length, map, take, arith, sym, ap, ◌∙◌}
 use Rattle.order_laws.specs.declared.Order.{Order}
 use Rattle.dating_bounds.specs.Dated.{renamed}
 use Rattle.dating_bounds.proofs.Renaming.{renamed_more}

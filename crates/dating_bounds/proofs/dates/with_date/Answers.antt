@@ -1,6 +1,6 @@
 use mir.Syntax.{w128}
 use mir.Val.{SFits, to_z, of_z}
-use Rattle.std.proofs.Common.{◌≡◌, ℤ, List, [], ◌∷◌, ◌++◌, true, sym, ap, ◌∙◌, refl, rules, append-nil}
+use Rattle.std.proofs.Common.{◌≡◌, ℤ, List, [], true, sym, ap, ◌∙◌, refl, rules, append-nil}
 use Rattle.std.proofs.lemmas.Int.{to_z-of_z}
 use Rattle.std.proofs.lemmas.Result.{IfOk-weaker}
 use Rattle.order_laws.specs.declared.Order.{Order}

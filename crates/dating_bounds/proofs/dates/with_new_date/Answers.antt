@@ -1,7 +1,5 @@
-use Rattle.std.proofs.Common.{◌≡◌, ℕ, ℤ, List, ◌∷◌, ◌++◌, length, map, take, drop, arith, rules, sym, ap, ◌∙◌, length-append}
-use Rattle.std.specs.Prelude.{pos}
-use Rattle.order_laws.specs.declared.Order.{Order}
-use Rattle.dating_bounds.specs.Dated.{place_of, renamed, neighbour_orders, inserted}
+use Rattle.std.proofs.Common.{◌≡◌, ℤ, List, length, arith, rules, ap, ◌∙◌}
+use Rattle.dating_bounds.specs.Dated.{place_of, inserted}
 use Rattle.dating_bounds.proofs.Moving.{place_within, length-inserted, inserted_instants, earlier_dates, later_date}
 use Rattle.dating_bounds.proofs.Dating.{inserted_is_set, length-inserted_list}
 use Rattle.dating_bounds.proofs.dates.with_new_date.Goals as goal

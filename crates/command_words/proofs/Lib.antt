@@ -1,0 +1,4 @@
+mod Instants
+mod Samples
+mod Shapes
+pub mod Soundness

@@ -1,0 +1,21 @@
+use Rattle.std.proofs.lemmas.Result.{err_from_is_err_and}
+use Rattle.crm_outside.proofs.PrintedLines.{no_line, next_line, broken_line}
+use Rattle.conflict_reports.specs.Texts.{suspect_line}
+use Rattle.conflict_reports.proofs.Items.{stands_at}
+use Rattle.conflict_reports.proofs.printing.print_suspect_lines.Goals as goal
+
+pub loop-k-init : goal.loop-k-init
+loop-k-init g c = no_line (λ _ s. suspect_line s) c.args.suspects.now g.W.Sink.written g.W.Sink.faults g.W.Sink.sure c.args.out.now
+
+pub returns-in_err-print_suspect : goal.returns-in_err-print_suspect
+returns-in_err-print_suspect g c =
+    let p = err_from_is_err_and c.from_residual.result c.from_residual.ensures.1 in
+    let here = stands_at c.args.suspects.now c.loop-k.k c.index-suspects-k.result c.loop-k-test.true c.index-suspects-k.is in rw (p.1, p.2) (record {
+      ok = tt;
+      err = broken_line (λ _ s. suspect_line s) c.args.suspects.now g.W.Sink.written g.W.Sink.faults g.W.Sink.sure c.loop-k.k c.index-suspects-k.result here _ _ _ _ c.loop-k.invariant c.in_err-print_suspect.ensures.err;
+    })
+
+pub loop-k-preserved : goal.loop-k-preserved
+loop-k-preserved g c =
+    let here = stands_at c.args.suspects.now c.loop-k.k c.index-suspects-k.result c.loop-k-test.true c.index-suspects-k.is in
+    next_line (λ _ s. suspect_line s) c.args.suspects.now g.W.Sink.written g.W.Sink.faults g.W.Sink.sure c.loop-k.k c.index-suspects-k.result here _ _ _ c.loop-k.invariant c.in_ok-print_suspect.ensures.ok

@@ -1,0 +1,16 @@
+pub mod Ranges
+pub mod Counting
+pub mod Passing
+pub mod Kept
+pub mod Returns
+pub mod Searching
+pub mod Avoiding
+pub mod Placed
+pub mod Members
+pub mod Tied
+pub mod First
+pub mod Once
+pub mod Rings
+pub mod Marking
+pub mod Untangled
+pub mod Listing

@@ -1,0 +1,10 @@
+use Rattle.std.proofs.Common.{length}
+use Rattle.chain_certificate.specs.Routes.{points_of}
+use Rattle.order_conflicts.specs.Walks.{IsWalk, work_left}
+use Rattle.order_conflicts.proofs.layers.follow.Given as goal
+
+abbrev pub invariant-loop-point : goal.invariant-loop-point
+invariant-loop-point g l = IsWalk (points_of l.set) (length l.set.list) l.walk
+
+abbrev pub decreases-loop-point : goal.decreases-loop-point
+decreases-loop-point g l = work_left (length l.set.list) l.walk

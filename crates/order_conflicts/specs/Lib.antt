@@ -1,0 +1,9 @@
+pub mod Numbers
+pub mod Cycles
+pub mod Tangles
+pub mod Suspects
+pub mod Rings
+pub mod Paths
+pub mod Walks
+pub mod Found
+pub mod Conflicts
