@@ -134,6 +134,27 @@ def limits(extents=2048, orders=65536):
         yield f"ex:genesis-{k}", [(BEFORE if k % 2 else AFTER, day)] + later.get(k, [])
 
 
+def in_a_loop(contexts, short=0):
+    """Contexts of which each is before the next and the last before the first, with a loop of `short` contexts in their midst."""
+    later = {k: [k + 1] for k in range(contexts - 1)}
+    later[contexts - 1] = [0]
+    if short:
+        later[contexts // 2 + short - 1].append(contexts // 2)
+    for k in range(contexts):
+        yield f"ex:genesis-{k}", [("a", "arch:A4_Stratigraphic_Genesis")] + [("tm:AP13-before", f"ex:genesis-{j}") for j in later[k]]
+
+
+def with_mistakes(contexts, mistakes):
+    """A site where so many contexts, far from each other, are also said to be before the one that they lie on."""
+    yield from site(contexts)
+    pairs, _ = stratigraphy(contexts, 20, random.Random(contexts))
+    step, last = contexts // mistakes, -1
+    for low, high in sorted(pairs, key=lambda pair: pair[1]):
+        if low > last and high >= last + step // 2 and mistakes:
+            yield f"ex:genesis-{high}", [("tm:AP13-before", f"ex:genesis-{low}")]
+            last, mistakes = high, mistakes - 1
+
+
 def fill(path, head, piece="", tail=""):
     """A file of the head, as many pieces as it may have at most, and the tail."""
     count = ((1 << 26) - len(head) - len(tail)) // len(piece) if piece else 0

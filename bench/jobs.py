@@ -119,6 +119,25 @@ class Bench:
             ours = self.job(job, ["reason", name], peer="cat text", peer_name="`cat` of its text", stick=["reason", name], wanted=fast)
             self.memory(job, ours, size, "text written")
 
+    def conflicts(self):
+        for title, subjects, wanted in (("one loop through 2,000 contexts", archives.in_a_loop(2000), [0.3]),
+                                        ("a loop of three in a loop of 2,000", archives.in_a_loop(2000, 3), [0.3]),
+                                        ("ten small ones in 2,000 contexts", archives.with_mistakes(2000, 10), [0.1])):
+            archives.write_turtle("wrong.ttl", subjects)
+            self.job(f"`conflicts`, {title}", ["conflicts", "wrong.ttl"], wanted=wanted)
+
+    def dating(self):
+        """What asks of all boundaries or of all pairs, beside what makes the closure, or the reasons, of the same file."""
+        closure = [self.options.program, "explain", "limits.ttl", archives.BASE + "genesis-0", "P182", archives.BASE + "genesis-2047"]
+        twice = [("twice `explain`", lambda ours, peer, _: ours <= 2 * peer)]
+        self.job("`dates`, at the limits", ["dates", "limits.ttl"], peer=closure, peer_name="`explain`", wanted=twice)
+        for title, name in (("400 contexts", "small.ttl"), ("2,000 contexts", "site.ttl")):
+            reason = [self.options.program, "reason", name]
+            for command in (["dates", name], ["bounds", name], ["when", name, "0100"]):
+                self.job(f"`{command[0]}`, {title}", command, peer=reason, peer_name="`reason`", wanted=[("at most `reason`", lambda ours, peer, _: ours <= peer)])
+        self.job("`allen`, 400 contexts", ["allen", "small.ttl"], peer=[self.options.program, "reason", "small.ttl"], peer_name="`reason`",
+                 wanted=[("twice `reason`", lambda ours, peer, _: ours <= 2 * peer)])
+
     def certificates(self):
         certify = ["certify", "orders", "small.ttl"]
         self.job("`certify orders`, 400 contexts", certify, out="small.cert", wanted=[0.2])
@@ -173,7 +192,7 @@ def main():
     with tempfile.TemporaryDirectory(dir="/dev/shm" if os.path.isdir("/dev/shm") else None) as folder:
         os.chdir(folder)
         bench = Bench(options, folder)
-        for part in (bench.reading, bench.questions, bench.reasons, bench.certificates, bench.hostile):
+        for part in (bench.reading, bench.questions, bench.reasons, bench.conflicts, bench.dating, bench.certificates, bench.hostile):
             part()
         os.chdir(HERE)
     line = f"{machine(options.date, options.note)} Seconds {'of the processor' if options.processor else 'by the clock'}, the least of {options.turns}."

@@ -12,20 +12,39 @@ import re
 import subprocess
 import sys
 
-from table_of_dates import calendar
-
+DAY = 86400 * 10**9
 LABEL, COMMENT = (f"<http://www.w3.org/2000/01/rdf-schema#{word}>" for word in ("label", "comment"))
 FORMER = {"s": "{} had begun", "e": "{} was over", "d": "{} had come"}
 LATTER = {"s": "{} began", "e": "{} ended", "d": "{} came"}
 
 
-def printed(command, name):
-    done = subprocess.run([os.environ.get("CRM_CLI", "crm_cli"), command, name], stdout=subprocess.PIPE)
+def calendar(instant):
+    """The day of an instant in nanoseconds from 1970, in the proleptic Gregorian calendar; -0049 is 50 BC."""
+    days = instant // DAY + 719468
+    era, day = divmod(days, 146097)
+    year = (day - day // 1460 + day // 36524 - day // 146096) // 365
+    day -= 365 * year + year // 4 - year // 100
+    month = (5 * day + 2) // 153
+    number, day = (month + 2) % 12 + 1, day - (153 * month + 2) // 5 + 1
+    year += 400 * era + (number < 3)
+    return f"{'-' if year < 0 else ''}{abs(year):04}-{number:02}-{day:02}"
+
+
+def printed(*words):
+    """The lines that the program prints; where it gives no answer, this ends with what it says, and its status."""
+    done = subprocess.run([os.environ.get("CRM_CLI", "crm_cli"), *words], stdout=subprocess.PIPE)
     text = done.stdout.decode()
     if done.returncode > 1:
         sys.stderr.write(text)
         sys.exit(done.returncode)
     return text.splitlines()
+
+
+def labels(name):
+    """The labels of the nodes of an archive; of an event without one, that of what it produced."""
+    triples = [line[:-2].split(" ", 2) for line in printed("convert", name)]
+    found = {start: end[1 : end.rindex('"')] for start, predicate, end in reversed(triples) if predicate == LABEL}
+    return {**{start: found[end] for start, predicate, end in triples if "/AP7_" in predicate and end in found}, **found}
 
 
 class Archive:

@@ -1,46 +1,33 @@
 #!/usr/bin/env python3
-"""Says what `crm_cli bounds FILE` prints as a line for each period, with dates of the calendar.
+"""Prints between which dates the periods of an archive start and end, as a table in CSV.
 
-usage: crm_cli bounds FILE | table_of_dates.py
+usage: table_of_dates.py FILE [WORD]
 
-`starts 1190-01-01 to 1280-01-01` says that the period starts at the first of these days or later, and at the second or
-earlier; `?` stands where nothing is known on that side. A year or a month ends as the next one begins, so what ends by the
-year 1400 ends `to 1401-01-01`. Where the archive contradicts itself or was refused, what was read is printed, with status 1.
+A row has a period by its label or its IRI, the first date that it can start on, the last one, and the same of its end; a side of which
+nothing is known is empty. With WORD only the periods whose IRI holds it are printed, as `phase-`. A year or a month ends as the
+next one begins, so what is over by the end of 1400 has `1401-01-01`. Wants crm_cli (or the variable CRM_CLI). Where the archive
+contradicts itself, that is printed and the status is 1; where the file was refused, what the program said and its status.
 """
+import csv
 import sys
 
-DAY = 86400 * 10**9
-
-
-def calendar(instant):
-    """The day of an instant in nanoseconds from 1970, in the proleptic Gregorian calendar; -0049 is 50 BC."""
-    days = instant // DAY + 719468
-    era, day = divmod(days, 146097)
-    year = (day - day // 1460 + day // 36524 - day // 146096) // 365
-    day -= 365 * year + year // 4 - year // 100
-    month = (5 * day + 2) // 153
-    number, day = (month + 2) % 12 + 1, day - (153 * month + 2) // 5 + 1
-    year += 400 * era + (number < 3)
-    return f"{'-' if year < 0 else ''}{abs(year):04}-{number:02}-{day:02}"
+from cycle_in_words import labels, printed
 
 
 def main():
-    names, dates, bounds = {}, {}, {}
-    lines = sys.stdin.read().splitlines()
-    if "consistent" not in lines:
-        print("\n".join(lines[-2:]))
+    if len(sys.argv) not in (2, 3):
+        sys.exit(__doc__)
+    name, word = sys.argv[1], sys.argv[2] if len(sys.argv) == 3 else ""
+    lines = [line.split(" ") for line in printed("dates", name)]
+    if lines[0] == ["inconsistent"]:
+        sys.stderr.write("the archive contradicts itself\n")
         return 1
-    for line in lines:
-        words = line.split(" ")
-        if words[0][0] == "x" and words[1] == "period":
-            names[words[0][1:]] = words[2]
-        elif words[0][0] == "d" and words[0][1:].isdigit():
-            dates[words[0]] = calendar(int(words[1]))
-        elif words[0] in ("low", "high"):
-            bounds[words[0], words[1]] = "?" if words[2] == "none" else dates[words[3]]
-    for number, name in names.items():
-        ends = [f"{bounds['low', side + number]} to {bounds['high', side + number]}" for side in "se"]
-        print(f"{name} starts {ends[0]}, ends {ends[1]}")
+    known = labels(name)
+    table = csv.writer(sys.stdout, lineterminator="\n")
+    table.writerow(["period", "starts from", "starts to", "ends from", "ends to"])
+    for _, node, _, _, first, _, last, _, _, sooner, _, later in lines[1:]:
+        if word in node:
+            table.writerow([known.get(node, node.strip("<>"))] + ["" if date == ".." else date for date in (first, last, sooner, later)])
     return 0
 
 

@@ -1,0 +1,10 @@
+pub mod Exchanging
+pub mod Numbering
+pub mod Naming
+pub mod Holding
+pub mod Alike
+pub mod Rotating
+pub mod Filing
+pub mod Renaming
+pub mod Agreeing
+pub mod Limiting
