@@ -1,3 +1,4 @@
+pub mod AnyOrder
 pub mod Contradictions
 pub mod Dated
 pub mod Endings

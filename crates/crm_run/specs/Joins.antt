@@ -1,14 +1,19 @@
 -- What is known of files while they are joined.
-use Rattle.std.specs.Prelude.{◌≡◌, ℕ, List, [], Option, Some, None, get_or, take}
+use Rattle.std.specs.Prelude.{◌≡◌, ⊤, ℕ, List, [], Option, Some, None, get_or, take}
 use Rattle.std.specs.List.{All}
+use Rattle.std.specs.List.Sorted.{IsPermutation}
+use Rattle.rdf_terms.specs.declared.terms.Term.{Term}
 use Rattle.rdf_terms.specs.declared.triples.Records.{Records}
 use Rattle.rdf_reading.specs.Answers.Answer.{Read}
 use Rattle.crm_outside.specs.Shelves.{Files}
 use Rattle.report_base.specs.Reports.{Report}
 use Rattle.record_reports.specs.RecordReports.{refusal_report}
 use Rattle.crm_core.specs.Contents.{Contents}
-use Rattle.archive_join.specs.Archives.{file_past, joined_past, with_file, with_files}
+use Rattle.archive_join.specs.Archives.{file_past, joined, joined_past, with_file, with_files}
 use Rattle.archive_join.specs.Joining.{nothing}
+use Rattle.join_laws.specs.Agreeing.{AgreeUpTo}
+use Rattle.command_words.specs.declared.tasks.Task.{Task}
+use Rattle.command_words.specs.declared.tasks.Task.TheVariants as task
 use Rattle.crm_run.specs.declared.joining.Joining.{Joining}
 use Rattle.crm_run.specs.declared.joining.Joining.TheVariants.{Joined, Refused}
 use Rattle.crm_run.specs.Outcomes.{IsRead}
@@ -45,3 +50,19 @@ AreJoined base files names (Refused f) = (parts_fault base files 0 names ≡ Non
 abbrev pub joining_report : (Records → Option Report) → Joining → Option Report
 joining_report said (Joined j) = said j.records
 joining_report said (Refused f) = Some (refusal_report f)
+
+-- The files that are read say the same with their names in any order: the same nodes, renamed, are faulty, extents and periods, consistent
+-- together or not, and the same follows of them.
+abbrev pub IsInAnyOrder : Option (List ℕ) → Files → List (List ℕ) → Type 0
+IsInAnyOrder base files names = (others : List (List ℕ)) → IsPermutation names others →
+    (m : Term → Term) × AgreeUpTo m (joined (parts_of base files names)).records (joined (parts_of base files others)).records
+
+abbrev pub OrderIsFree : Files → Option Task → Type 0
+OrderIsFree files (Some (task.Join base k names)) = IsInAnyOrder base files names
+OrderIsFree files (Some (task.Report base file q)) = ⊤
+OrderIsFree files (Some (task.Verify base file cert)) = ⊤
+OrderIsFree files (Some (task.List base file l)) = ⊤
+OrderIsFree files (Some (task.Sample n)) = ⊤
+OrderIsFree files (Some (task.Help command)) = ⊤
+OrderIsFree files (Some task.Version) = ⊤
+OrderIsFree files None = ⊤

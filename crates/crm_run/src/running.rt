@@ -3,6 +3,7 @@ ghost use Rattle.std.specs.Prelude.{◌≡◌, ◌⊎◌, ◌≤◌, length, IfS
 ghost use Rattle.crm_outside.specs.Causes.{Rose};
 ghost use Rattle.crm_run.specs.Outcomes.{Outcome, Ends, IsComplete, Faulted, IsUsage};
 ghost use Rattle.crm_run.specs.Headline.{JudgesTruly, SaysTruly};
+ghost use Rattle.crm_run.specs.Joins.{OrderIsFree};
 ghost use Rattle.command_words.specs.Words.{command_of};
 ghost use Rattle.command_words.specs.Tasks.{task_named, IsSound};
 ghost use Rattle.crm_run.specs.Report.{usage_report, report};
@@ -21,6 +22,7 @@ use command_help::{write_help, write_version};
 use command_words::{Task, read_words, task_of};
 use crm_core::{Status, orders_of_records_are_a_set, write_sample};
 use crm_outside::{Shelf, Sink};
+use join_laws::{parts_of_names_in_another_order, what_is_found_is_the_same_in_any_order};
 use std::alloc::{AllocError, Global};
 
 const USAGE: &str = "usage: crm_cli COMMAND [--base IRI] WORDS\n";
@@ -95,6 +97,8 @@ pub fn run<S: Shelf, W: Sink>(alloc: Global, words: &[String], shelf: &mut S, ou
         Ends W.written W.faults W.sure out.old out.new (report (map string_bytes words.now) files) result) }
     // of a file that is read, or of several that are read as one, the report says what is true of every placing of its starts and ends
     ensures headline { IfSome (S.files shelf.old) (λ files. SaysTruly W.written out.old out.new files (task_named (map string_bytes words.now)) result) }
+    // of several files as one, what is found doesn't depend on the order of their names
+    ensures any_order { IfSome (S.files shelf.old) (λ files. OrderIsFree files (task_named (map string_bytes words.now))) }
     // where `verify` accepts the certificate of a file that is read, its verdict is true of the file's records
     ensures verdict { IfSome (S.files shelf.old) (λ files. JudgesTruly W.written out.old out.new files (task_named (map string_bytes words.now)) result) }
     ensures no_form { command_of (map string_bytes words.now) ≡ None → Outcome W.written W.faults W.sure out.old out.new usage_report result }
@@ -118,5 +122,7 @@ pub fn run<S: Shelf, W: Sink>(alloc: Global, words: &[String], shelf: &mut S, ou
     moments_are_true();
     conflicts_are_true();
     orders_of_records_are_a_set();
+    what_is_found_is_the_same_in_any_order();
+    parts_of_names_in_another_order();
     run_words(alloc, words, shelf, out)
 }

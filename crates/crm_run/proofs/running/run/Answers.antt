@@ -1,9 +1,15 @@
 use Rattle.std.specs.Prelude.{map, string_bytes}
 use Rattle.crm_outside.specs.Causes.{Rose}
 use Rattle.command_words.specs.Tasks.{task_named}
+use Rattle.crm_run.proofs.AnyOrder.{order_is_free}
 use Rattle.crm_run.proofs.Endings.{calm, certain}
 use Rattle.crm_run.proofs.Headlines.{headline}
 use Rattle.crm_run.proofs.running.run.Goals as goal
+
+pub returns-clause-any_order : goal.returns-clause-any_order
+returns-clause-any_order g c =
+    order_is_free c.what_is_found_is_the_same_in_any_order.ensures c.parts_of_names_in_another_order.ensures
+    (g.S.Shelf.files c.args.shelf.now) (task_named (map string_bytes c.args.words.now))
 
 pub returns-clause-calm : goal.returns-clause-calm
 returns-clause-calm g c = λ read write.
