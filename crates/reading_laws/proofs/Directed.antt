@@ -20,16 +20,16 @@ use Rattle.turtle_grammar.specs.declared.states.Step.TheVariants.{Stay, Push, Po
 use Rattle.turtle_grammar.specs.Machine.{next}
 use Rattle.turtle_grammar.specs.Tokens.{Value, Token, terminal_of}
 use Rattle.turtle_grammar.specs.Tokens as grammar
-use Rattle.turtle_reader.specs.declared.document.Open.{Open}
-use Rattle.turtle_reader.specs.declared.document.Link.{Link}
-use Rattle.turtle_reader.specs.declared.document.Link.TheVariants as link
+use Rattle.turtle_documents.specs.declared.document.Open.{Open}
+use Rattle.turtle_documents.specs.declared.document.Link.{Link}
+use Rattle.turtle_documents.specs.declared.document.Link.TheVariants as link
 use Rattle.rdf_vocabulary.specs.Iris.{rdf_type, rdf_lang_string, xsd_string}
-use Rattle.turtle_reader.specs.Words.{bracket_at, ends_collection}
-use Rattle.turtle_reader.specs.Blanks.{label_number, with_label}
-use Rattle.turtle_reader.specs.Environments.{EnvironmentState, reference_iri}
-use Rattle.turtle_reader.specs.Storing.{with_name, with_value, literal_term, iri_term}
-use Rattle.turtle_reader.specs.Documents as spec
-use Rattle.turtle_reader.specs.Documents.{DocumentState, lowercase, plain_literal, beginning, top_frame, is_name}
+use Rattle.turtle_environments.specs.Words.{bracket_at, ends_collection}
+use Rattle.turtle_environments.specs.Blanks.{label_number, with_label}
+use Rattle.turtle_environments.specs.Environments.{EnvironmentState, reference_iri}
+use Rattle.turtle_environments.specs.Storing.{with_name, with_value, literal_term, iri_term}
+use Rattle.turtle_documents.specs.Documents as spec
+use Rattle.turtle_documents.specs.Documents.{DocumentState, lowercase, plain_literal, beginning, top_frame, is_name}
 use Rattle.reading_laws.specs.Refusals.{read_on}
 use Rattle.reading_laws.proofs.Steps.{settled_step, code_none}
 use Rattle.reading_laws.proofs.Opens.{agrees, next_agrees}

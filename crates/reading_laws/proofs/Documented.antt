@@ -16,13 +16,13 @@ use Rattle.turtle_grammar.specs.Grammar.Objects.{NoObjects, MoreObjects}
 use Rattle.turtle_grammar.specs.Grammar.Subject.{NamedNode, LabelledNode, AnonymousNode, CollectionNode}
 use Rattle.turtle_grammar.specs.Grammar.Directive.{AtPrefix, AtBase, PlainPrefix, PlainBase}
 use Rattle.turtle_grammar.specs.Grammar.Document.{NoMore, Direct, Triples, Node, NodePairs}
-use Rattle.turtle_reader.specs.declared.document.Link.TheVariants as link
+use Rattle.turtle_documents.specs.declared.document.Link.TheVariants as link
 use Rattle.rdf_vocabulary.specs.Iris.{rdf_first, rdf_rest, rdf_nil}
-use Rattle.turtle_reader.specs.Blanks.{label_number, with_label}
-use Rattle.turtle_reader.specs.Environments.{EnvironmentState, reference_iri}
-use Rattle.turtle_reader.specs.Storing.{iri_term, with_name}
-use Rattle.turtle_reader.specs.Documents as spec
-use Rattle.turtle_reader.specs.Documents.{after_token, at_state, begun, popped, name_iri}
+use Rattle.turtle_environments.specs.Blanks.{label_number, with_label}
+use Rattle.turtle_environments.specs.Environments.{EnvironmentState, reference_iri}
+use Rattle.turtle_environments.specs.Storing.{iri_term, with_name}
+use Rattle.turtle_documents.specs.Documents as spec
+use Rattle.turtle_documents.specs.Documents.{after_token, at_state, begun, popped, name_iri}
 use Rattle.turtle_reader.specs.Answers.{environment}
 use Rattle.reading_laws.specs.Refusals.{read_on, read_from}
 use Rattle.reading_laws.specs.Meaning.{Graph, no_graph, node, with_node, object_at, object_says, items_say, pairs_say, subject_says, directed, document_says}

@@ -20,10 +20,10 @@ use Rattle.ntriples_laws.specs.Canonical.{terms_of}
 use Rattle.ntriples_laws.proofs.Numbering.{joins, any_is, position_le, joins_length}
 use Rattle.ntriples_laws.proofs.Labels.{bytes_self}
 use Rattle.ntriples_laws.proofs.Replaying.{same_three, held_by_terms, with_new, with_old}
-use Rattle.turtle_reader.specs.Tables.{value_of}
-use Rattle.turtle_reader.specs.Tables as tables
-use Rattle.turtle_reader.specs.Blanks.{label_number, number_by, with_label, with_label_by}
-use Rattle.turtle_reader.specs.Storing.{StoreState, iri_term, with_name, literal_term, with_value, added}
+use Rattle.turtle_environments.specs.Tables.{value_of}
+use Rattle.turtle_environments.specs.Tables as tables
+use Rattle.turtle_environments.specs.Blanks.{label_number, number_by, with_label, with_label_by}
+use Rattle.turtle_environments.specs.Storing.{StoreState, iri_term, with_name, literal_term, with_value, added}
 use Rattle.reading_laws.specs.Meaning.{Graph, node, with_node, with_triple}
 use Rattle.reading_laws.specs.Numbering.{Counts, nothing, Comes, behind, AreNumbered, terms, IsOnce}
 use Rattle.reading_laws.proofs.Numbers.{Known, AllKnown, Within, all_within, behind_within, numbered_push, numbered_split, numbered_known, numbered_same, terms_push, once_push}

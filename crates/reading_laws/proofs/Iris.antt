@@ -21,8 +21,8 @@ use Rattle.ntriples_laws.proofs.Canon.{IriChars, small_scalar}
 use Rattle.ntriples_laws.proofs.Good.{GoodIri}
 use Rattle.rdf_vocabulary.specs.Iris.{rdf_type, rdf_first, rdf_rest, rdf_nil, xsd_integer, xsd_decimal, xsd_double, xsd_boolean}
 use Rattle.rdf_reading.specs.Values.{is_excluded}
-use Rattle.turtle_reader.specs.Environments.{has_excluded}
-use Rattle.turtle_reader.proofs.Schemes.{resolved_scheme, scheme_is, goes_on}
+use Rattle.turtle_environments.specs.Environments.{has_excluded}
+use Rattle.turtle_environments.proofs.Schemes.{resolved_scheme, scheme_is, goes_on}
 use Rattle.reading_laws.specs.Narrow.{IsIri}
 
 -- each byte may stand in an IRI

@@ -18,12 +18,12 @@ use Rattle.turtle_grammar.specs.Tokens.{Value, Token, terminal_of}
 use Rattle.turtle_grammar.specs.Tokens as tokens
 use Rattle.turtle_grammar.specs.Grammar.{Verb, verb}
 use Rattle.turtle_grammar.specs.Grammar.Verb.{Iri, IsA}
-use Rattle.turtle_reader.specs.declared.document.Link.TheVariants as link
+use Rattle.turtle_documents.specs.declared.document.Link.TheVariants as link
 use Rattle.rdf_vocabulary.specs.Iris.{rdf_type, rdf_nil, xsd_string}
-use Rattle.turtle_reader.specs.Environments.{EnvironmentState}
-use Rattle.turtle_reader.specs.Storing.{iri_term, with_name}
-use Rattle.turtle_reader.specs.Documents as spec
-use Rattle.turtle_reader.specs.Documents.{DocumentState, is_round, top_frame, is_plain, after_token, at_state, ended, begun, popped, name_iri, plain_literal, lowercase}
+use Rattle.turtle_environments.specs.Environments.{EnvironmentState}
+use Rattle.turtle_environments.specs.Storing.{iri_term, with_name}
+use Rattle.turtle_documents.specs.Documents as spec
+use Rattle.turtle_documents.specs.Documents.{DocumentState, is_round, top_frame, is_plain, after_token, at_state, ended, begun, popped, name_iri, plain_literal, lowercase}
 use Rattle.reading_laws.specs.Refusals.{read_on}
 use Rattle.reading_laws.specs.Meaning.{Graph, node, with_node, with_triple, with_iri, with_literal, with_labelled, tagged_literal, verb_iri, place}
 use Rattle.reading_laws.proofs.Meanings.{Place, Left, doc, is_in, finished, Goes, IsObject, IsVerb, IsAfter, no_string, step_is, object_next, verb_next, any_state, link_of}

@@ -10,7 +10,7 @@ use Rattle.rdf_terms.specs.Naming.{name_count}
 use Rattle.rdf_terms.specs.Terms.{is_held}
 use Rattle.rdf_terms.specs.Terms as held
 use Rattle.turtle_grammar.specs.Grammar.{Document}
-use Rattle.turtle_reader.specs.Storing.{StoreState}
+use Rattle.turtle_environments.specs.Storing.{StoreState}
 use Rattle.reading_laws.specs.Meaning.{document_says, no_graph}
 use Rattle.turtle_reader.specs.Answers.{records_of, environment}
 use Rattle.reading_laws.specs.Telling.{Statement, untold, document_tells}

@@ -24,17 +24,17 @@ use Rattle.turtle_grammar.specs.declared.states.Step.{Step}
 use Rattle.turtle_grammar.specs.declared.states.Step.TheVariants.{Stay, Push, Pop, Refused}
 use Rattle.turtle_grammar.specs.Tokens.{Value, Token, terminal_of}
 use Rattle.turtle_grammar.specs.Tokens as grammar
-use Rattle.turtle_reader.specs.declared.document.Open.{Open}
-use Rattle.turtle_reader.specs.declared.document.Link.{Link}
-use Rattle.turtle_reader.specs.declared.document.Link.TheVariants as link
+use Rattle.turtle_documents.specs.declared.document.Open.{Open}
+use Rattle.turtle_documents.specs.declared.document.Link.{Link}
+use Rattle.turtle_documents.specs.declared.document.Link.TheVariants as link
 use Rattle.rdf_vocabulary.specs.Iris.{rdf_type, rdf_first, rdf_rest, rdf_nil, rdf_lang_string, xsd_string}
-use Rattle.turtle_reader.specs.Blanks.{label_number, with_label}
-use Rattle.turtle_reader.specs.Tables.{value_of}
-use Rattle.turtle_reader.specs.Tables as tables
-use Rattle.turtle_reader.specs.Environments.{EnvironmentState, has_excluded, base_code, reference_code, reference_iri, resolved_by, prefix_code, prefixed_code, joined_by, prefixed_iri, with_base}
-use Rattle.turtle_reader.specs.Storing.{StoreState, with_name, with_value, literal_term, added}
-use Rattle.turtle_reader.specs.Documents as spec
-use Rattle.turtle_reader.specs.Documents.{DocumentState, lowercase, plain_literal, beginning}
+use Rattle.turtle_environments.specs.Blanks.{label_number, with_label}
+use Rattle.turtle_environments.specs.Tables.{value_of}
+use Rattle.turtle_environments.specs.Tables as tables
+use Rattle.turtle_environments.specs.Environments.{EnvironmentState, has_excluded, base_code, reference_code, reference_iri, resolved_by, prefix_code, prefixed_code, joined_by, prefixed_iri, with_base}
+use Rattle.turtle_environments.specs.Storing.{StoreState, with_name, with_value, literal_term, added}
+use Rattle.turtle_documents.specs.Documents as spec
+use Rattle.turtle_documents.specs.Documents.{DocumentState, lowercase, plain_literal, beginning}
 use Rattle.turtle_reader.specs.Answers.{environment}
 use Rattle.reading_laws.specs.Refusals.{read_on, read_from}
 use Rattle.reading_laws.proofs.Paths.{Taken}
@@ -153,8 +153,8 @@ popped_sound d h = by d.stack
     by (o ∷ st) = ended_sound (spec.restored o.frame o (record d { stack = st })) (restored_sound o.frame o (record d { stack = st }) (plain d (record d { stack = st }) refl refl refl h))
 
 closed_sound : (d : DocumentState) (t : Token) → Sound d → Sound (spec.closed d t)
-closed_sound d t h = popped_sound (cond (Rattle.turtle_reader.specs.Words.ends_collection t) (spec.closed_cells d (Rattle.turtle_reader.specs.Words.bracket_at t)) d)
-    (cond_both {A = DocumentState} (Rattle.turtle_reader.specs.Words.ends_collection t) _ d Sound (λ _. cells_sound d (Rattle.turtle_reader.specs.Words.bracket_at t) h) (λ _. h))
+closed_sound d t h = popped_sound (cond (Rattle.turtle_environments.specs.Words.ends_collection t) (spec.closed_cells d (Rattle.turtle_environments.specs.Words.bracket_at t)) d)
+    (cond_both {A = DocumentState} (Rattle.turtle_environments.specs.Words.ends_collection t) _ d Sound (λ _. cells_sound d (Rattle.turtle_environments.specs.Words.bracket_at t) h) (λ _. h))
 
 literal_sound : (d : DocumentState) (v : Literal) (at : ℕ) → IsLiteral v → Sound d → Sound (spec.with_literal d v at)
 unfolding spec.with_literal
@@ -343,7 +343,7 @@ at_sound d q h = plain d (spec.at_state d q) refl refl refl h
 
 stepped_sound : (s : Step) (d : DocumentState) (t : Token) → GoodToken t → spec.step_code s d t ≡ None → Sound d → Sound (spec.stepped s d.state d t)
 stepped_sound Refused d t g c h = h
-stepped_sound (Push f r) d t g c h = at_sound (spec.opened d f (Rattle.turtle_reader.specs.Words.bracket_at t)) r (opened_sound d f (Rattle.turtle_reader.specs.Words.bracket_at t) h)
+stepped_sound (Push f r) d t g c h = at_sound (spec.opened d f (Rattle.turtle_environments.specs.Words.bracket_at t)) r (opened_sound d f (Rattle.turtle_environments.specs.Words.bracket_at t) h)
 stepped_sound (Pop r) d t g c h = at_sound (spec.closed d t) r (closed_sound d t h)
 stepped_sound (Stay r) d t g c h = at_sound (spec.stayed d.state d t) r (stayed_sound d.state d t g refl c h)
 

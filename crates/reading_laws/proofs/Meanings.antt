@@ -20,14 +20,14 @@ use Rattle.turtle_grammar.specs.Grammar.Verb.{Iri, IsA}
 use Rattle.turtle_grammar.specs.Grammar.Object.{Named, Labelled, Anonymous, Collection, Nested, Number, Plain, Tagged, Typed}
 use Rattle.turtle_grammar.specs.Grammar.Objects.{NoObjects, MoreObjects}
 use Rattle.turtle_grammar.specs.Grammar.Further.{NoFurther, Bare, Full}
-use Rattle.turtle_reader.specs.declared.document.Open.{Open}
-use Rattle.turtle_reader.specs.declared.document.Link.{Link}
-use Rattle.turtle_reader.specs.declared.document.Link.TheVariants as link
+use Rattle.turtle_documents.specs.declared.document.Open.{Open}
+use Rattle.turtle_documents.specs.declared.document.Link.{Link}
+use Rattle.turtle_documents.specs.declared.document.Link.TheVariants as link
 use Rattle.rdf_vocabulary.specs.Iris.{rdf_first, rdf_rest}
-use Rattle.turtle_reader.specs.Environments.{EnvironmentState}
-use Rattle.turtle_reader.specs.Storing.{iri_term, with_name}
-use Rattle.turtle_reader.specs.Documents as spec
-use Rattle.turtle_reader.specs.Documents.{DocumentState, is_round, top_frame, is_plain, after_token, at_state, ended, begun, popped, stepped, name_iri, plain_literal}
+use Rattle.turtle_environments.specs.Environments.{EnvironmentState}
+use Rattle.turtle_environments.specs.Storing.{iri_term, with_name}
+use Rattle.turtle_documents.specs.Documents as spec
+use Rattle.turtle_documents.specs.Documents.{DocumentState, is_round, top_frame, is_plain, after_token, at_state, ended, begun, popped, stepped, name_iri, plain_literal}
 use Rattle.reading_laws.specs.Meaning.{Graph, node, with_node, with_triple, place}
 
 -- where a document is read, and what is left of earlier tokens

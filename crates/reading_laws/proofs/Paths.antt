@@ -26,9 +26,9 @@ use Rattle.turtle_grammar.proofs.Unique.{document_unique}
 use Rattle.turtle_lexer.specs.Streams.{Stream, Ahead, tokens}
 use Rattle.turtle_lexer.specs.Streams.Stream.{Ends, NoToken, Overlong, Given}
 use Rattle.turtle_lexer.specs.Streams.Ahead.{NotUtf8, Tokens}
-use Rattle.turtle_reader.specs.declared.document.Open.{Open}
-use Rattle.turtle_reader.specs.Words.{token_by}
-use Rattle.turtle_reader.specs.Documents.{DocumentState, beginning, is_statement, settled, top_frame, step_code, step_of, stay_code, token_code, after_token, code_from}
+use Rattle.turtle_documents.specs.declared.document.Open.{Open}
+use Rattle.turtle_environments.specs.Words.{token_by}
+use Rattle.turtle_documents.specs.Documents.{DocumentState, beginning, is_statement, settled, top_frame, step_code, step_of, stay_code, token_code, after_token, code_from}
 use Rattle.turtle_reader.specs.Answers.{judge, by_ahead, records_of, environment, answer}
 use Rattle.reading_laws.specs.Meaning.{document_says, no_graph}
 use Rattle.reading_laws.specs.Spelling.{IsCut, IsDocument}

@@ -18,9 +18,9 @@ use Rattle.turtle_grammar.proofs.Whole.{viable_to, document_to}
 use Rattle.turtle_lexer.specs.Streams.{Stream, Ahead, tokens}
 use Rattle.turtle_lexer.specs.Streams.Stream.{Ends, NoToken, Overlong, Given}
 use Rattle.turtle_lexer.specs.Streams.Ahead.{NotUtf8, Tokens}
-use Rattle.turtle_reader.specs.Words.{token_by}
-use Rattle.turtle_reader.specs.Documents as spec
-use Rattle.turtle_reader.specs.Documents.{DocumentState, beginning, is_statement, top_frame, token_code, after_token}
+use Rattle.turtle_environments.specs.Words.{token_by}
+use Rattle.turtle_documents.specs.Documents as spec
+use Rattle.turtle_documents.specs.Documents.{DocumentState, beginning, is_statement, top_frame, token_code, after_token}
 use Rattle.turtle_reader.specs.Answers.{judge, by_ahead, records_of, environment, answer}
 use Rattle.reading_laws.specs.Spelling.{IsCut}
 use Rattle.reading_laws.specs.Refusals.{read_on, read_from, is_opening, open_behind, IsTokenFault, IsEndFault}

@@ -11,7 +11,7 @@ use Rattle.turtle_grammar.specs.Grammar.Further.{NoFurther, Bare, Full}
 use Rattle.turtle_grammar.specs.Grammar.Subject.{NamedNode, LabelledNode, AnonymousNode, CollectionNode}
 use Rattle.turtle_grammar.specs.Grammar.Directive.{AtPrefix, AtBase, PlainPrefix, PlainBase}
 use Rattle.turtle_grammar.specs.Grammar.Document.{NoMore, Direct, Triples, Node, NodePairs}
-use Rattle.turtle_reader.specs.Environments.{EnvironmentState}
+use Rattle.turtle_environments.specs.Environments.{EnvironmentState}
 use Rattle.reading_laws.specs.Meaning.{directed}
 use Rattle.reading_laws.specs.Directives.{Part, begun_by, Standing, all_behind, outset, set_by_document}
 use Rattle.reading_laws.specs.Directives as parts

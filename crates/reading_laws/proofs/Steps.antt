@@ -17,9 +17,9 @@ use Rattle.turtle_grammar.specs.declared.states.Step.TheVariants.{Stay, Push, Po
 use Rattle.turtle_grammar.specs.Machine.{next, statement_step, form_step, verb_step, object_step, after_step, more_step, text_step}
 use Rattle.turtle_grammar.specs.Tokens.{Token, terminal_of}
 use Rattle.turtle_grammar.specs.Runs.{Config, top, advance, step}
-use Rattle.turtle_reader.specs.declared.document.Open.{Open}
-use Rattle.turtle_reader.specs.Words.{bracket_at}
-use Rattle.turtle_reader.specs.Documents.{DocumentState, is_plain, plain_by, settled, top_frame, step_code, stepped, step_of, token_code, after_token, code_from, state_from}
+use Rattle.turtle_documents.specs.declared.document.Open.{Open}
+use Rattle.turtle_environments.specs.Words.{bracket_at}
+use Rattle.turtle_documents.specs.Documents.{DocumentState, is_plain, plain_by, settled, top_frame, step_code, stepped, step_of, token_code, after_token, code_from, state_from}
 use Rattle.reading_laws.proofs.Stacks.{frames, rest_of, plain_by_stack, settled_stack, stayed_stack, opened_frames, closed_stack}
 
 -- no bracket is closed where none stands open

@@ -21,10 +21,10 @@ use Rattle.turtle_grammar.specs.Grammar.Further.{NoFurther, Bare, Full}
 use Rattle.turtle_grammar.specs.Grammar.Subject.{NamedNode, LabelledNode, AnonymousNode, CollectionNode}
 use Rattle.turtle_grammar.specs.Grammar.Document.{NoMore, Direct, Triples, Node, NodePairs}
 use Rattle.rdf_vocabulary.specs.Iris.{rdf_first, rdf_rest, rdf_nil, xsd_string}
-use Rattle.turtle_reader.specs.Blanks.{label_number, with_label}
-use Rattle.turtle_reader.specs.Environments.{EnvironmentState}
-use Rattle.turtle_reader.specs.Storing.{StoreState, iri_term, with_name, literal_term, with_value, added}
-use Rattle.turtle_reader.specs.Documents.{name_iri, plain_literal}
+use Rattle.turtle_environments.specs.Blanks.{label_number, with_label}
+use Rattle.turtle_environments.specs.Environments.{EnvironmentState}
+use Rattle.turtle_environments.specs.Storing.{StoreState, iri_term, with_name, literal_term, with_value, added}
+use Rattle.turtle_documents.specs.Documents.{name_iri, plain_literal}
 use Rattle.reading_laws.specs.Meaning.{Graph, no_graph, tagged_literal, verb_iri, object_at, place, object_says, items_say, commas_say, pairs_say, further_say, collection_says, subject_says, directed, document_says}
 use Rattle.reading_laws.specs.Meaning as graph
 use Rattle.reading_laws.specs.Telling.{Thing, Statement, Told, untold, tell, object_tells, items_tell, commas_tell, pairs_tell, further_tell, subject_is, subject_tells, document_tells, statements}

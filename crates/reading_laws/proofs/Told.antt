@@ -13,8 +13,8 @@ use Rattle.rdf_terms.specs.Naming.{NameLists, same_literal, name_count, has_iri,
 use Rattle.rdf_reading.specs.Room.{is_full_iri, is_full_literal}
 use Rattle.ntriples_laws.proofs.Numbering.{joins, joins_length}
 use Rattle.ntriples_laws.proofs.Labels.{bytes_self}
-use Rattle.turtle_reader.specs.Blanks.{BlankNodes, label_number, with_label}
-use Rattle.turtle_reader.specs.Storing.{StoreState, iri_term, with_name, literal_term, with_value}
+use Rattle.turtle_environments.specs.Blanks.{BlankNodes, label_number, with_label}
+use Rattle.turtle_environments.specs.Storing.{StoreState, iri_term, with_name, literal_term, with_value}
 use Rattle.reading_laws.specs.Meaning.{Graph, no_graph}
 use Rattle.reading_laws.specs.Meaning as graph
 use Rattle.reading_laws.specs.Telling.{Thing, Statement, Told, untold}
@@ -202,7 +202,7 @@ pub node_step : (g : Graph) (t : Told) (ks ps : List Pending) → Pre g t ks ps 
 node_step g t ks ps h =
     let same : telling.node t ≡ Blank g.blanks.count = ap (λ b. Blank b.count) (sym h.blanks) in
     subst (λ x. Pre (graph.with_node g) (telling.with_node t) ks (ps ++ (graph.node g, x) ∷ [])) (sym same)
-    (moved g (graph.with_node g) t (telling.with_node t) ks ps (term.Blank g.blanks.count, Blank g.blanks.count) refl refl (ap Rattle.turtle_reader.specs.Blanks.one_more h.blanks) (blank_free g.blanks.count) h.held)
+    (moved g (graph.with_node g) t (telling.with_node t) ks ps (term.Blank g.blanks.count, Blank g.blanks.count) refl refl (ap Rattle.turtle_environments.specs.Blanks.one_more h.blanks) (blank_free g.blanks.count) h.held)
 
 pub label_step : (g : Graph) (t : Told) (ks ps : List Pending) (label : List ℕ) → Pre g t ks ps
     → Pre (record g { blanks = with_label g.blanks label }) (telling.labelled t label) ks (ps ++ (term.Blank (label_number g.blanks label), Blank (label_number t.blanks label)) ∷ [])

@@ -13,12 +13,12 @@ use Rattle.turtle_grammar.specs.Grammar.Object.{Named, Labelled, Anonymous, Coll
 use Rattle.turtle_grammar.specs.Grammar.Objects.{NoObjects, MoreObjects}
 use Rattle.turtle_grammar.specs.Grammar.Pairs.{Pair}
 use Rattle.turtle_grammar.specs.Grammar.Further.{NoFurther, Bare, Full}
-use Rattle.turtle_reader.specs.declared.document.Link.TheVariants as link
+use Rattle.turtle_documents.specs.declared.document.Link.TheVariants as link
 use Rattle.rdf_vocabulary.specs.Iris.{rdf_first, rdf_rest}
-use Rattle.turtle_reader.specs.Environments.{EnvironmentState}
-use Rattle.turtle_reader.specs.Storing.{iri_term, with_name}
-use Rattle.turtle_reader.specs.Documents as spec
-use Rattle.turtle_reader.specs.Documents.{after_token, at_state, popped, top_frame, name_iri, lowercase}
+use Rattle.turtle_environments.specs.Environments.{EnvironmentState}
+use Rattle.turtle_environments.specs.Storing.{iri_term, with_name}
+use Rattle.turtle_documents.specs.Documents as spec
+use Rattle.turtle_documents.specs.Documents.{after_token, at_state, popped, top_frame, name_iri, lowercase}
 use Rattle.reading_laws.specs.Refusals.{read_on}
 use Rattle.reading_laws.specs.Meaning.{Graph, node, with_node, with_triple, verb_iri, object_at, object_says, items_say, commas_say, pairs_say, further_say}
 use Rattle.reading_laws.proofs.Meanings.{Place, Left, doc, is_in, finished, Goes, IsObject, IsVerb, IsAfter, step_is, link_of, cell_place, cell_graph, begun_in, begun_out, ended_in, ended_out, goes_items, goes_commas, goes_further, out_comma, semicolon_next}

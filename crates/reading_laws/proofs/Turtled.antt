@@ -12,7 +12,7 @@ use Rattle.turtle_grammar.specs.Runs.{run, start}
 use Rattle.turtle_lexer.specs.Streams.{Stream, Ahead, tokens}
 use Rattle.turtle_lexer.specs.Streams.Stream.{Ends, NoToken, Overlong, Given}
 use Rattle.turtle_lexer.specs.Streams.Ahead.{NotUtf8, Tokens}
-use Rattle.turtle_reader.specs.Documents.{beginning, is_statement}
+use Rattle.turtle_documents.specs.Documents.{beginning, is_statement}
 use Rattle.turtle_reader.specs.Answers.{judge, by_ahead, records_of, environment, answer}
 use Rattle.reading_laws.specs.Meaning.{document_says, no_graph}
 use Rattle.reading_laws.specs.Spelling.{IsCut, IsDocument}

@@ -42,10 +42,10 @@ use Rattle.turtle_lexer.proofs.Texts as texts
 use Rattle.turtle_grammar.specs.declared.terminals.NameForm.TheVariants as form
 use Rattle.turtle_grammar.specs.Tokens.{Value, Token}
 use Rattle.turtle_grammar.specs.Tokens as grammar
-use Rattle.turtle_reader.specs.Words.{token_by}
+use Rattle.turtle_environments.specs.Words.{token_by}
 use Rattle.rdf_reading.specs.Values.{is_excluded}
-use Rattle.turtle_reader.specs.Environments.{has_excluded}
-use Rattle.turtle_reader.specs.Documents.{lowercase}
+use Rattle.turtle_environments.specs.Environments.{has_excluded}
+use Rattle.turtle_documents.specs.Documents.{lowercase}
 use Rattle.reading_laws.specs.Spelling.{IsCut}
 use Rattle.reading_laws.specs.Narrow.{IsIri}
 use Rattle.reading_laws.proofs.Iris.{AllPlain, plain_append, plain_from, integer_iri, decimal_iri, double_iri, boolean_iri}

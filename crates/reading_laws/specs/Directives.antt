@@ -6,8 +6,8 @@ use Rattle.turtle_grammar.specs.Grammar.{Document}
 use Rattle.turtle_grammar.specs.Grammar.Document.{NoMore, Direct, Triples, Node, NodePairs}
 use Rattle.turtle_grammar.specs.Tokens.{Token}
 use Rattle.turtle_grammar.specs.Tokens.Token.{Name, Str, At, Prefix, Base}
-use Rattle.turtle_reader.specs.Environments.{EnvironmentState, reference_iri, with_prefix, with_base}
-use Rattle.turtle_reader.specs.Documents.{name_code}
+use Rattle.turtle_environments.specs.Environments.{EnvironmentState, reference_iri, with_prefix, with_base}
+use Rattle.turtle_documents.specs.Documents.{name_code}
 use Rattle.reading_laws.specs.Meaning.{directed}
 
 -- what a name is that stands next: a name of a statement, the prefix or the IRI of a prefix's directive, or a base; behind a string `@` begins a tag

@@ -8,7 +8,7 @@ use Rattle.turtle_grammar.specs.Grammar.{Document, document, Viable}
 use Rattle.turtle_lexer.specs.Streams.{Stream, tokens}
 use Rattle.turtle_lexer.specs.Streams.Stream.{Ends, NoToken, Overlong, Given}
 use Rattle.turtle_lexer.specs.Streams.Ahead.{NotUtf8, Tokens}
-use Rattle.turtle_reader.specs.Words.{token_by}
+use Rattle.turtle_environments.specs.Words.{token_by}
 use Rattle.turtle_reader.specs.Answers.{environment}
 use Rattle.reading_laws.specs.Spelling.{IsCut, IsDocument}
 use Rattle.reading_laws.specs.Refusals.{is_opening, open_behind}

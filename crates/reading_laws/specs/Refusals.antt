@@ -8,8 +8,8 @@ use Rattle.turtle_grammar.specs.Grammar.{Document, document, Viable}
 use Rattle.turtle_lexer.specs.Streams.{Stream, tokens}
 use Rattle.turtle_lexer.specs.Streams.Stream.{Ends, NoToken, Overlong, Given}
 use Rattle.turtle_lexer.specs.Streams.Ahead.{NotUtf8, Tokens}
-use Rattle.turtle_reader.specs.Words.{token_by}
-use Rattle.turtle_reader.specs.Documents.{DocumentState, stay_code, after_token, beginning}
+use Rattle.turtle_environments.specs.Words.{token_by}
+use Rattle.turtle_documents.specs.Documents.{DocumentState, stay_code, after_token, beginning}
 use Rattle.turtle_reader.specs.Answers.{environment}
 use Rattle.reading_laws.specs.Meaning.{document_says, no_graph}
 use Rattle.reading_laws.specs.Spelling.{IsCut}

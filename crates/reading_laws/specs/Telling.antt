@@ -9,9 +9,9 @@ use Rattle.turtle_grammar.specs.Grammar.Further.{NoFurther, Bare, Full}
 use Rattle.turtle_grammar.specs.Grammar.Subject.{NamedNode, LabelledNode, AnonymousNode, CollectionNode}
 use Rattle.turtle_grammar.specs.Grammar.Document.{NoMore, Direct, Triples, Node, NodePairs}
 use Rattle.rdf_vocabulary.specs.Iris.{rdf_first, rdf_rest, rdf_nil, xsd_string}
-use Rattle.turtle_reader.specs.Blanks.{BlankNodes, no_blanks, one_more, label_number, with_label}
-use Rattle.turtle_reader.specs.Environments.{EnvironmentState}
-use Rattle.turtle_reader.specs.Documents.{name_iri, plain_literal}
+use Rattle.turtle_environments.specs.Blanks.{BlankNodes, no_blanks, one_more, label_number, with_label}
+use Rattle.turtle_environments.specs.Environments.{EnvironmentState}
+use Rattle.turtle_documents.specs.Documents.{name_iri, plain_literal}
 use Rattle.reading_laws.specs.Meaning.{tagged_literal, verb_iri, object_at, place, directed}
 
 pub data Thing : Type 0 where

@@ -19,7 +19,7 @@ ghost use Rattle.rdf_reading.specs.Values.{inside};
 ghost use Rattle.turtle_lexer.specs.Values.{marks, value};
 ghost use Rattle.turtle_grammar.specs.Tokens.{Token};
 ghost use Rattle.turtle_grammar.specs.Grammar.{Document, document};
-ghost use Rattle.turtle_reader.specs.Environments.{EnvironmentState};
+ghost use Rattle.turtle_environments.specs.Environments.{EnvironmentState};
 ghost use Rattle.reading_laws.specs.Directives.{Part, all_behind, outset, set_by_document};
 
 /// What is read is orderly: triples fit the names, and all is numbered by first coming.
